@@ -1,0 +1,3 @@
+mod Widths
+mod Copied
+pub mod First

@@ -1,0 +1,5 @@
+-- What the contracts of this crate and of the crates above it cite.
+pub mod Numbers
+pub mod Header
+pub mod Put
+pub mod First

@@ -1,0 +1,4 @@
+// Bytes in and out, for every file format of the analyser: numbers, record headers, and bytes copied in.
+pub mod copy;
+pub mod header;
+pub mod numbers;
