@@ -1,0 +1,127 @@
+-- Every byte string gets an answer: a plan that is laid out and legal, or a refusal that document 01 lists.
+use Prim.Native.Nat.{ℕ, zero, suc, _+_, _≤_, _<_}
+use native.Mathlib.Omega.{arith}
+use mathlib.Core.Path.{_≡_, refl, sym, ap, subst}
+use mathlib.Core.List.{List, [], _∷_, _++_}
+use lib.ListN.{length}
+use borrow.Author.Tests.{eqb-false, ltb-false}
+use Rattle.framing.specs.Header.{tagAt}
+use Rattle.plan.specs.Table.{bodyLength, fieldsOf}
+use Rattle.plan.specs.Values.{platformAt, flowAt, limitsAt, blankPlatform}
+use Rattle.plan.specs.Checks.{clashAt, tailAt, restAt, recordAt}
+use Rattle.plan.specs.Reading.{accepted, refused, records, readPlan}
+use Rattle.plan.specs.Legal.{LegalPlatform, Legal, flow}
+use Rattle.plan.specs.Layout.{Headed, place, Laid}
+use Rattle.plan.specs.declared.Platform.{Platform}
+use Rattle.plan.specs.declared.Flow.{Flow}
+use Rattle.plan.specs.declared.Reading.{Reading}
+use Rattle.plan.specs.declared.checks.Checked.{Checked}
+use Rattle.plan.specs.declared.checks.Checked.the-variants.{Fault, Passed}
+use Rattle.plan.specs.declared.table.Kind.{Kind}
+use Rattle.plan.specs.declared.table.Kind.the-variants.{PlatformRecord, FlowRecord, EndRecord}
+use Rattle.plan.proofs.Tags.{tagByte, tag-byte}
+use Rattle.plan.proofs.Order.{passed, Framed, flow-room, platform-first, others-later, Fine, fine, fault-ends, platform-leads, flow-leads, end-accepts}
+use Rattle.plan.proofs.Fields.{passed-allowed, platform-legal, flow-legal}
+use Rattle.plan.proofs.Growth.{longer, each-more, legal-more}
+use Rattle.plan.proofs.Listed.{Numbered, Listed, fault-listed}
+
+-- what a reading of the bytes may come to
+pub data Answer (s : List ℕ) : Reading → Type 0 where
+  accepts : (p : Platform) (fs : List Flow) → Laid s p fs → Legal p fs → Answer s (accepted p fs)
+  refuses : (number place : ℕ) → Numbered number → place ≤ length s → Answer s (refused number place)
+
+-- ---- the records in front of the one at `at`
+record Front (s : List ℕ) (p : Platform) (fs : List Flow) (at : ℕ) : Type 0 where
+  here : at ≡ place (length fs)
+  platform : Headed s 0 0x01 6 × (platformAt s 0 ≡ p)
+  each : (k : ℕ) → k < length fs → Headed s (place k) 0x02 20 × (flowAt s (place k) ≡ flow fs k)
+  legal : Legal p fs
+
+data Stands (s : List ℕ) (p : Platform) (fs : List Flow) (at : ℕ) : Type 0 where
+  start : at ≡ 0 → fs ≡ [] → Stands s p fs at
+  going : Front s p fs at → Stands s p fs at
+
+headed : {s : List ℕ} {at count : ℕ} (kind : Kind) → Framed s at kind count → Headed s at (tagByte kind) (bodyLength kind)
+headed {s} {at} kind w = record { tag-is = tag-byte (tagAt s at) (w .tag); size-is = w .size }
+
+no-flows : (p : Platform) → LegalPlatform p → Legal p []
+no-flows p w = record { platform = w; few = omega arith; each = λ k h. absurd (omega arith); ids = λ j k l h. absurd (omega arith); priorities = λ j k l h. absurd (omega arith) }
+
+module _ {s : List ℕ} {p : Platform} {fs : List Flow} {at : ℕ} (w : Stands s p fs at) where
+  later : (at ≡ 0 → ⊥) → Front s p fs at
+  later n = go w
+    where
+      go : Stands s p fs at → Front s p fs at
+      go (start z e) = absurd (n z)
+      go (going f) = f
+
+  no-flows-yet : at ≡ 0 → fs ≡ []
+  no-flows-yet z = go w
+    where
+      go : Stands s p fs at → fs ≡ []
+      go (start o e) = e
+      go (going f) = absurd (omega (arith, f .here))
+
+  platform-step : Fine s at p fs PlatformRecord → Front s (platformAt s at) fs (at + 9)
+  platform-step f =
+      let z = platform-first (f .frame) in
+      let n = no-flows-yet z in
+      let legal = platform-legal s at (limitsAt s at PlatformRecord p) (passed-allowed s at PlatformRecord (limitsAt s at PlatformRecord p) 3 (fieldsOf PlatformRecord) (f .fields .1)) in
+      rw n (record {
+        here = omega arith;
+        platform = (rw z at (headed PlatformRecord (f .frame)), rw z);
+        each = λ k h. absurd (omega arith);
+        legal = no-flows (platformAt s at) legal;
+      })
+
+  flow-step : Fine s at p fs FlowRecord → Front s p (fs ++ flowAt s at ∷ []) (at + 23)
+  unfolding restAt clashAt
+  flow-step f =
+      let b = later (others-later FlowRecord refl (f .frame)) in
+      let g = flowAt s at in
+      let m = passed _ _ _ _ (f .rest) in
+      let i = passed _ _ _ _ (m .1) in
+      let q = passed _ _ _ _ (i .1) in
+      let legal = flow-legal s at p (passed-allowed s at FlowRecord (limitsAt s at FlowRecord p) 3 (fieldsOf FlowRecord) (f .fields .1)) (eqb-false (g .source) (g .destination) (m .0)) in
+      record {
+        here = omega (arith, b .here, longer fs g);
+        platform = b .platform;
+        each = each-more fs g (λ k x. Headed s (place k) 0x02 20 × (flowAt s (place k) ≡ x)) (b .each) (rw (b .here) at (headed FlowRecord (f .frame)), ap (flowAt s) (sym (b .here)));
+        legal = legal-more fs g p (b .legal) (flow-room (f .frame) refl) legal (i .0) (q .0);
+      }
+
+  end-step : Fine s at p fs EndRecord → Laid s p fs × Legal p fs
+  unfolding restAt tailAt
+  end-step f =
+      let b = later (others-later EndRecord refl (f .frame)) in
+      let t = ltb-false (at + 3) (length s) (passed _ _ _ _ (f .rest) .0) in
+      (record { platform = b .platform; each = b .each; end = rw (b .here) at (headed EndRecord (f .frame)); nothing-else = omega (arith, b .here, f .frame .whole) }, b .legal)
+
+-- ---- the reading, record by record
+module _ (s : List ℕ) where
+  abbrev From : ℕ → Type 0
+  From turns = (p : Platform) (fs : List Flow) (at : ℕ) → Stands s p fs at → at ≤ length s → Answer s (records turns s at p fs)
+
+  by-record : (turns : ℕ) → From turns → (p : Platform) (fs : List Flow) (at : ℕ) → Stands s p fs at → at ≤ length s → (c : Checked) → recordAt s at p fs ≡ c → Answer s (records (suc turns) s at p fs)
+  by-record turns more p fs at w h (Fault number pl) e =
+      let l = subst (Listed s) e (fault-listed s at p fs h) in
+      rw (fault-ends s at p fs turns e) (refuses number pl (l .0) (l .1))
+  by-record turns more p fs at w h (Passed PlatformRecord) e =
+      let f = fine s at p fs e in
+      rw (platform-leads s at p fs turns e) (more (platformAt s at) fs (at + 9) (going (platform-step w f)) (omega (arith, f .frame .whole)))
+  by-record turns more p fs at w h (Passed FlowRecord) e =
+      let f = fine s at p fs e in
+      rw (flow-leads s at p fs turns e) (more p (fs ++ flowAt s at ∷ []) (at + 23) (going (flow-step w f)) (omega (arith, f .frame .whole)))
+  by-record turns more p fs at w h (Passed EndRecord) e =
+      let l = end-step w (fine s at p fs e) in
+      rw (end-accepts s at p fs turns e) (accepts p fs (l .0) (l .1))
+
+  from : (turns : ℕ) → From turns
+  unfolding records
+  from zero p fs at w h = refuses 1 at (omega arith, omega arith) h
+  from (suc turns) p fs at w h = by-record turns (from turns) p fs at w h (recordAt s at p fs) refl
+
+  -- "Every byte string offered as a plan gets an analysis or, only for a fault listed in document 01, a numbered refusal with its place"
+  pub answered : Answer s (readPlan s)
+  unfolding readPlan
+  answered = from (suc (length s)) blankPlatform [] 0 (start refl refl) (omega arith)

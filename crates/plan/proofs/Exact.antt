@@ -1,0 +1,152 @@
+-- "No refusal is given otherwise": bytes are accepted exactly if they are laid out as the table says, with legal values.
+use Prim.Native.Nat.{ℕ, zero, suc, _+_, _-_, _*_, _≤_, _<_}
+use native.Mathlib.Omega.{arith}
+use mathlib.Core.Path.{_≡_, refl, sym, ap, _∙_}
+use mathlib.Core.Bool.{false}
+use mathlib.Core.List.{List, [], _∷_, _++_}
+use mathlib.Core.Logic.{_↔_}
+use lib.ListN.{length, take}
+use lib.Seq.{take-at, take-all, take-suc, length-take-le, getD-take}
+use lib.Dec.{eqb}
+use borrow.Author.Tests.{eq-eqb, ne-eqb, le-ltb, lt-leb}
+use Rattle.framing.specs.First.{_when_else_}
+use Rattle.framing.specs.Header.{lengthAt}
+use Rattle.plan.specs.Table.{bodyLength, fieldsOf}
+use Rattle.plan.specs.Values.{flowAt, limitsAt, blankPlatform, blankFlow}
+use Rattle.plan.specs.Checks.{misplaced, noRoom, headerAt, taggedAt, frameAt, some, clashAt, tailAt, restAt, recordAt}
+use Rattle.plan.specs.Reading.{padded, accepted, refused, records, readPlan}
+use Rattle.plan.specs.Legal.{Distinct, Legal, flow}
+use Rattle.plan.specs.Layout.{Headed, place, Laid}
+use Rattle.plan.specs.declared.Platform.{Platform}
+use Rattle.plan.specs.declared.Flow.{Flow}
+use Rattle.plan.specs.declared.Reading.{Reading}
+use Rattle.plan.specs.declared.Outcome.the-variants.{Accepted, Refused}
+use Rattle.plan.specs.declared.checks.Checked.the-variants.{Passed}
+use Rattle.plan.specs.declared.table.Kind.{Kind}
+use Rattle.plan.specs.declared.table.Kind.the-variants.{PlatformRecord, FlowRecord, EndRecord}
+use Rattle.plan.proofs.Tags.{tagByte, tag-known}
+use Rattle.plan.proofs.Order.{record-rest, platform-leads, flow-leads, end-accepts}
+use Rattle.plan.proofs.Fields.{allowed-passed, legal-platform, legal-flow}
+use Rattle.plan.proofs.Growth.{found-none}
+use Rattle.plan.proofs.Listed.{Numbered}
+use Rattle.plan.proofs.Answered.{Answer, accepts, refuses, answered}
+
+-- ---- a record in its place, with the table's tag and length and its body there, has a frame without fault
+module _ (s : List ℕ) (at : ℕ) (kind : Kind) (count : ℕ) where
+  frame-passes : Headed s at (tagByte kind) (bodyLength kind) → misplaced (eqb at 0) kind ≡ false → at + 3 + bodyLength kind ≤ length s → noRoom kind count ≡ false → frameAt s at count ≡ Passed kind
+  unfolding frameAt taggedAt headerAt _when_else_
+  frame-passes h m w r =
+      rw (le-ltb (length s - at) 3 (omega arith), h .tag-is, tag-known kind, m, eq-eqb (lengthAt s at) (bodyLength kind) (h .size-is), le-ltb (length s - (at + 3)) (lengthAt s at) (omega (arith, h .size-is)), r)
+
+module _ (s : List ℕ) (p : Platform) (fs : List Flow) (laid : Laid s p fs) (legal : Legal p fs) where
+  platform-passes : recordAt s 0 blankPlatform [] ≡ Passed PlatformRecord
+  unfolding restAt
+  platform-passes =
+      let l = limitsAt s 0 PlatformRecord blankPlatform in
+      record-rest s 0 blankPlatform [] (frame-passes s 0 PlatformRecord 0 (laid .platform .0) refl (omega (arith, laid .nothing-else)) refl)
+      (allowed-passed s 0 PlatformRecord l 3 (fieldsOf PlatformRecord) (legal-platform s 0 l (rw (laid .platform .1) (legal .platform))))
+
+  -- a place behind the platform record
+  abbrev behind : (k : ℕ) → misplaced (eqb (place k) 0) FlowRecord ≡ false
+  behind k = rw (ne-eqb (place k) 0 (omega arith))
+
+  module _ (k : ℕ) (l : k < length fs) where
+    many : length (take k fs) ≡ k
+    many = length-take-le k fs (omega arith)
+
+    -- none of the flows before has this flow's value
+    unlike : (value : Flow → ℕ) → Distinct value fs → some (λ g. eqb (value g) (value (flow fs k))) (take k fs) ≡ false
+    unlike value d =
+        found-none (λ g. eqb (value g) (value (flow fs k))) (take k fs)
+        (λ j h. let b : j < k = omega (arith, many) in rw (getD-take k fs j blankFlow b) (ne-eqb (value (flow fs j)) (value (flow fs k)) (d j k b l)))
+
+    clash-passes : clashAt (place k) (flow fs k) (take k fs) ≡ Passed FlowRecord
+    unfolding clashAt _when_else_
+    clash-passes = rw (ne-eqb (flow fs k .source) (flow fs k .destination) (legal .each k l .moves), unlike (λ f. f .id) (legal .ids), unlike (λ f. f .priority) (legal .priorities))
+
+    flow-passes : recordAt s (place k) p (take k fs) ≡ Passed FlowRecord
+    unfolding restAt
+    flow-passes =
+        let e = laid .each k l .1 in
+        record-rest s (place k) p (take k fs)
+        (frame-passes s (place k) FlowRecord (length (take k fs)) (laid .each k l .0) (behind k) (omega (arith, laid .nothing-else)) (lt-leb 64 (length (take k fs)) (omega (arith, many, legal .few))))
+        (allowed-passed s (place k) FlowRecord (limitsAt s (place k) FlowRecord p) 3 (fieldsOf FlowRecord) (legal-flow s (place k) p (rw e (legal .each k l))))
+        ∙ ap (λ (f : Flow). clashAt (place k) f (take k fs)) e
+        ∙ clash-passes
+
+  end-passes : recordAt s (place (length fs)) p fs ≡ Passed EndRecord
+  unfolding restAt tailAt _when_else_
+  end-passes =
+      record-rest s (place (length fs)) p fs
+      (frame-passes s (place (length fs)) EndRecord (length fs) (laid .end) (rw (ne-eqb (place (length fs)) 0 (omega arith))) (omega (arith, laid .nothing-else)) refl)
+      (allowed-passed s (place (length fs)) EndRecord (limitsAt s (place (length fs)) EndRecord p) 3 [] tt)
+      ∙ rw (le-ltb (place (length fs) + 3) (length s) (omega (arith, laid .nothing-else)))
+
+  -- the records from flow k on
+  from : (r k turns : ℕ) → k + r ≡ length fs → r < turns → records turns s (place k) p (take k fs) ≡ accepted p fs
+  from r k zero e h = absurd (omega arith)
+  from zero k (suc turns) e h =
+      let w : take k fs ≡ fs = take-all k fs (omega arith) in
+      let z : k ≡ length fs = omega arith in
+      (λ i. records (suc turns) s (place (z i)) p (w i)) ∙ end-accepts s (place (length fs)) p fs turns end-passes
+  from (suc r) k (suc turns) e h =
+      let l : k < length fs = omega arith in
+      let g : take k fs ++ flowAt s (place k) ∷ [] ≡ take (suc k) fs = ap (λ (x : Flow). take k fs ++ x ∷ []) (laid .each k l .1) ∙ sym (take-suc fs k blankFlow l) in
+      let z : place k + 23 ≡ place (suc k) = omega arith in
+      flow-leads s (place k) p (take k fs) turns (flow-passes k l)
+      ∙ (λ i. records turns s (z i) p (g i))
+      ∙ from r (suc k) turns (omega arith) (omega arith)
+
+  laid-accepted : readPlan s ≡ accepted p fs
+  unfolding readPlan
+  laid-accepted =
+      platform-leads s 0 blankPlatform [] (length s) platform-passes
+      ∙ ap (λ (q : Platform). records (length s) s 9 q []) (laid .platform .1)
+      ∙ from (length fs) 0 (length s) (omega arith) (omega (arith, laid .nothing-else))
+
+-- ---- and nothing else is accepted
+refused-never : (number pl : ℕ) (q : Platform) (gs : List Flow) → refused number pl ≡ accepted q gs → ⊥
+unfolding refused accepted
+refused-never number pl q gs e =
+    let o : Refused number pl ≡ Accepted = ap (λ (r : Reading). r .outcome) e in
+    let z : _≡_ {A = ℕ} 0 1 = cc in
+    omega arith
+
+same-plan : (p q : Platform) (fs gs : List Flow) → accepted p fs ≡ accepted q gs → (p ≡ q) × (fs ≡ gs)
+unfolding accepted
+same-plan p q fs gs e =
+    let n : length fs ≡ length gs = ap (λ (r : Reading). r .plan .count) e in
+    let l : padded fs ≡ padded gs = ap (λ (r : Reading). r .plan .flows) e in
+    (ap (λ (r : Reading). r .plan .platform) e, sym (take-at fs _ (length fs) refl) ∙ ap (take (length fs)) l ∙ take-at gs _ (length fs) (sym n))
+
+accepted-laid : (s : List ℕ) (p : Platform) (fs : List Flow) → readPlan s ≡ accepted p fs → Laid s p fs × Legal p fs
+accepted-laid s p fs = go (readPlan s) (answered s)
+  where
+    go : (r : Reading) → Answer s r → r ≡ accepted p fs → Laid s p fs × Legal p fs
+    go r (accepts q gs laid legal) e = let k = same-plan q p gs fs e in rw (← k .0, ← k .1) (laid, legal)
+    go r (refuses number pl n h) e = absurd (refused-never number pl p fs e)
+
+-- a refusal's number is one of document 01's and never acceptance's 0, and its place is one of the input's or the end of it
+pub refusal-listed : (s : List ℕ) (number pl : ℕ) → readPlan s ≡ refused number pl → Numbered number × (pl ≤ length s)
+unfolding refused
+refusal-listed s number pl = go (readPlan s) (answered s)
+  where
+    go : (r : Reading) → Answer s r → r ≡ refused number pl → Numbered number × (pl ≤ length s)
+    go r (accepts q gs laid legal) e = absurd (refused-never number pl q gs (sym e))
+    go r (refuses n at w h) e = let o : Refused n at ≡ Refused number pl = ap (λ (x : Reading). x .outcome) e in
+        let a : n ≡ number = cc in
+        let b : at ≡ pl = cc in
+        rw (← a, ← b) (w, h)
+
+pub accepted-exactly : (s : List ℕ) (p : Platform) (fs : List Flow) → (readPlan s ≡ accepted p fs) ↔ (Laid s p fs × Legal p fs)
+accepted-exactly s p fs = (accepted-laid s p fs, λ (laid, legal). laid-accepted s p fs laid legal)
+
+-- what acceptance gives
+pub legal : (s : List ℕ) (p : Platform) (fs : List Flow) → readPlan s ≡ accepted p fs → Legal p fs
+legal s p fs e = accepted-laid s p fs e .1
+
+-- an accepted plan of n flows has 12 + 23 n bytes: "The longest legal plan has 1,484 bytes."
+pub size : (s : List ℕ) (p : Platform) (fs : List Flow) → readPlan s ≡ accepted p fs → (length s ≡ 12 + 23 * length fs) × (length s ≤ 1484)
+size s p fs e =
+    let w = accepted-laid s p fs e in
+    (omega (arith, w .0 .nothing-else), omega (arith, w .0 .nothing-else, w .1 .few))

@@ -1,0 +1,142 @@
+-- Each place and each number of the table of refusals, pinned by examples that are computed from the definitions alone.
+use Prim.Native.Nat.{ℕ, zero, suc}
+use mathlib.Core.Path.{_≡_, refl}
+use mathlib.Core.List.{List, [], _∷_, _++_, map}
+use lib.ListN.{take, drop, set, replicate}
+use Rattle.framing.specs.First.{_when_else_}
+use Rattle.framing.specs.Put.{put}
+use Rattle.plan.specs.Table.{tagOf}
+use Rattle.plan.specs.Values.{blankFlow}
+use Rattle.plan.specs.Checks.{headerAt, taggedAt, frameAt, fieldsFrom, clashAt, tailAt, restAt, _then_, bodyAt, recordAt}
+use Rattle.plan.specs.Reading.{accepted, refused, after, records, readPlan}
+use Rattle.plan.specs.PlanP.{P}
+use Rattle.plan.specs.declared.Outcome.{Outcome}
+use Rattle.plan.specs.declared.Outcome.the-variants.{Accepted, Refused}
+use Rattle.plan.specs.declared.checks.Checked.{Checked}
+use Rattle.plan.specs.declared.checks.Checked.the-variants.{Fault}
+
+-- P is accepted, with these values
+plan-P : readPlan P ≡ accepted (record { columns = 6; rows = 1; link = 1; routing = 0; buffer = 10; method = 3 })
+    (record { id = 2; priority = 1; source = 4; destination = 5; flits = 60; period = 200; deadline = 200; jitter = 0 }
+    ∷ record { id = 3; priority = 2; source = 0; destination = 5; flits = 198; period = 4000; deadline = 4000; jitter = 0 }
+    ∷ record { id = 5; priority = 3; source = 1; destination = 4; flits = 128; period = 6000; deadline = 6000; jitter = 0 } ∷ [])
+unfolding tagOf headerAt taggedAt frameAt fieldsFrom clashAt tailAt restAt _then_ bodyAt recordAt accepted after records readPlan _when_else_
+plan-P = refl
+
+-- P with bytes written over it from a place on
+bytes : ℕ → List ℕ → List ℕ
+bytes at new = put P at new
+
+outcomes : List (List ℕ) → List Outcome
+outcomes = map (λ s. readPlan s .outcome)
+
+-- 1, 2, 3, 4: the frame
+frames :
+    outcomes
+    ([]  -- nothing at all
+    ∷ take 2 P  -- under 3 bytes where the platform must start
+    ∷ take 8 P  -- the platform's body is cut
+    ∷ take 11 P  -- under 3 bytes where a flow must start
+    ∷ take 54 P  -- a flow's body is cut
+    ∷ take 78 P  -- the end record is missing
+    ∷ take 80 P  -- under 3 bytes where the end record must start
+    ∷ set P 0 0x03  -- an unknown tag, first
+    ∷ set P 55 0x00  -- an unknown tag, later
+    ∷ set P 2 7  -- the platform's length
+    ∷ set P 33 1  -- a flow's length
+    ∷ set P 80 1  -- the end record's length
+    ∷ drop 9 P  -- the first record is a flow
+    ∷ drop 78 P  -- the first record is the end
+    ∷ (take 9 P ++ P)  -- a platform comes later
+    ∷ [])
+    ≡ Refused 1 0 ∷ Refused 1 0 ∷ Refused 1 0 ∷ Refused 1 9 ∷ Refused 1 32 ∷ Refused 1 78 ∷ Refused 1 78
+    ∷ Refused 2 0 ∷ Refused 2 55
+    ∷ Refused 3 1 ∷ Refused 3 33 ∷ Refused 3 79
+    ∷ Refused 4 0 ∷ Refused 4 0 ∷ Refused 4 9 ∷ []
+unfolding tagOf headerAt taggedAt frameAt fieldsFrom clashAt tailAt restAt _then_ bodyAt recordAt accepted refused after records readPlan _when_else_ outcomes
+frames = refl
+
+-- 5: each field below and above its values
+fields :
+    outcomes
+    (set P 3 0 ∷ set P 3 9  -- columns
+    ∷ set P 4 0 ∷ set P 4 9  -- rows
+    ∷ set P 5 0 ∷ set P 5 17  -- link cycles
+    ∷ set P 6 17  -- routing cycles
+    ∷ set P 7 0 ∷ set P 7 65  -- buffer flits
+    ∷ set P 8 4  -- method
+    ∷ bytes 12 (0xFF ∷ 0xFF ∷ [])  -- id
+    ∷ bytes 14 (0 ∷ 0 ∷ [])  -- priority
+    ∷ set P 16 6  -- source
+    ∷ set P 17 6  -- destination
+    ∷ bytes 18 (0 ∷ 0 ∷ [])  -- flits
+    ∷ set P 23 0 ∷ bytes 20 (0x3B ∷ 0x9A ∷ 0xCA ∷ 0x01 ∷ [])  -- period
+    ∷ set P 27 0 ∷ set P 27 201  -- deadline
+    ∷ bytes 28 (0x3B ∷ 0x9A ∷ 0xCA ∷ 0x01 ∷ [])  -- jitter
+    ∷ [])
+    ≡ Refused 5 3 ∷ Refused 5 3 ∷ Refused 5 4 ∷ Refused 5 4 ∷ Refused 5 5 ∷ Refused 5 5 ∷ Refused 5 6
+    ∷ Refused 5 7 ∷ Refused 5 7 ∷ Refused 5 8
+    ∷ Refused 5 12 ∷ Refused 5 14 ∷ Refused 5 16 ∷ Refused 5 17 ∷ Refused 5 18
+    ∷ Refused 5 20 ∷ Refused 5 20 ∷ Refused 5 24 ∷ Refused 5 24 ∷ Refused 5 28 ∷ []
+unfolding tagOf headerAt taggedAt frameAt fieldsFrom clashAt tailAt restAt _then_ bodyAt recordAt accepted refused after records readPlan _when_else_ outcomes bytes
+fields = refl
+
+-- the last allowed value of each field whose first is not the last
+edges :
+    outcomes
+    (set P 3 8 ∷ set P 4 8 ∷ set P 5 16 ∷ set P 6 16 ∷ set P 7 1 ∷ set P 7 64 ∷ set P 8 0
+    ∷ bytes 12 (0xFF ∷ 0xFE ∷ []) ∷ bytes 14 (0xFF ∷ 0xFF ∷ []) ∷ set P 16 0 ∷ bytes 18 (0xFF ∷ 0xFF ∷ [])
+    ∷ bytes 20 (0x3B ∷ 0x9A ∷ 0xCA ∷ 0x00 ∷ []) ∷ bytes 28 (0x3B ∷ 0x9A ∷ 0xCA ∷ 0x00 ∷ []) ∷ set P 27 1
+    ∷ [])
+    ≡ replicate 14 Accepted
+unfolding tagOf headerAt taggedAt frameAt fieldsFrom clashAt tailAt restAt _then_ bodyAt recordAt accepted refused after records readPlan _when_else_ outcomes bytes
+edges = refl
+
+-- 7, 8, 9, 10
+clashes :
+    outcomes
+    (set P 36 2  -- the second flow has the first one's id
+    ∷ set P 61 2  -- the third flow has the second one's priority
+    ∷ set P 17 4  -- the first flow goes nowhere
+    ∷ set P 63 1  -- the third flow goes nowhere
+    ∷ (P ++ 0x7F ∷ [])  -- a byte after the end record
+    ∷ (take 9 P ++ drop 78 P ++ P)  -- the same without flows
+    ∷ [])
+    ≡ Refused 7 35 ∷ Refused 8 60 ∷ Refused 9 17 ∷ Refused 9 63 ∷ Refused 10 81 ∷ Refused 10 12 ∷ []
+unfolding tagOf headerAt taggedAt frameAt fieldsFrom clashAt tailAt restAt _then_ bodyAt recordAt accepted refused after records readPlan _when_else_ outcomes
+clashes = refl
+
+-- of two faults in one record the first in document 01's order decides, of two records the first
+orders :
+    outcomes
+    (set (drop 9 P) 0 0x03  -- 2 before 4
+    ∷ set (drop 9 P) 1 1  -- 4 before 3
+    ∷ set (take 8 P) 2 7  -- 3 before 1
+    ∷ set (set P 7 65) 3 0  -- 5 field by field
+    ∷ put (set P 17 4) 28 (0x3B ∷ 0x9A ∷ 0xCA ∷ 0x01 ∷ [])  -- 5 before 9
+    ∷ set (set P 36 2) 40 0  -- 9 before 7
+    ∷ set (set P 38 1) 36 2  -- 7 before 8
+    ∷ set (set P 17 4) 7 65  -- the platform before a flow
+    ∷ set (P ++ 0 ∷ []) 63 1  -- a flow before 10
+    ∷ [])
+    ≡ Refused 2 0 ∷ Refused 4 0 ∷ Refused 3 1 ∷ Refused 5 3 ∷ Refused 5 28 ∷ Refused 9 40 ∷ Refused 7 35 ∷ Refused 5 7 ∷ Refused 9 63 ∷ []
+unfolding tagOf headerAt taggedAt frameAt fieldsFrom clashAt tailAt restAt _then_ bodyAt recordAt accepted refused after records readPlan _when_else_ outcomes
+orders = refl
+
+-- 6: n flows from node 0 to node 1, with ids 0, 1, .. and priorities 1, 2, ..
+flows : ℕ → List ℕ → List ℕ
+flows zero rest = rest
+flows (suc n) rest =
+    flows n (0x02 ∷ 0 ∷ 20 ∷ 0 ∷ n ∷ 0 ∷ suc n ∷ 0 ∷ 1 ∷ 0 ∷ 1 ∷ 0 ∷ 0 ∷ 0 ∷ 9 ∷ 0 ∷ 0 ∷ 0 ∷ 9 ∷ 0 ∷ 0 ∷ 0 ∷ 0 ∷ rest)
+
+a-65th-flow : outcomes ((take 9 P ++ flows 65 (0x7F ∷ 0 ∷ 0 ∷ [])) ∷ []) ≡ Refused 6 1481 ∷ []
+unfolding tagOf headerAt taggedAt frameAt fieldsFrom clashAt tailAt restAt _then_ bodyAt recordAt accepted refused after records readPlan _when_else_ outcomes flows
+a-65th-flow = refl
+
+-- the flow record of P behind 64 flows: a cut body before 6, and 6 before its fields
+behind-64 : List ℕ → Checked
+behind-64 s = recordAt s 9 (record { columns = 6; rows = 1; link = 1; routing = 0; buffer = 10; method = 3 }) (replicate 64 blankFlow)
+
+sixth : map behind-64 (take 32 P ∷ take 31 P ∷ set (take 32 P) 16 6 ∷ []) ≡ Fault 6 9 ∷ Fault 1 9 ∷ Fault 6 9 ∷ []
+unfolding tagOf headerAt taggedAt frameAt fieldsFrom clashAt tailAt restAt _then_ bodyAt recordAt accepted refused after records readPlan _when_else_ behind-64
+sixth = refl

@@ -1,0 +1,16 @@
+mod Tags
+mod Searches
+mod Fits
+mod Rests
+mod Padding
+mod Order
+mod Scan
+mod Turns
+mod Fields
+mod Growth
+mod Listed
+mod Answered
+pub mod Exact
+pub mod Fuel
+pub mod Enough
+mod Examples

@@ -1,0 +1,26 @@
+-- What a record's kind asks behind its fields.
+use Prim.Native.Nat.{ℕ}
+use mathlib.Core.Path.{_≡_}
+use mathlib.Core.List.{List}
+use Rattle.plan.specs.Values.{flowAt}
+use Rattle.plan.specs.Checks.{clashAt, tailAt, restAt}
+use Rattle.plan.specs.declared.Flow.{Flow}
+use Rattle.plan.specs.declared.checks.Checked.{Checked}
+use Rattle.plan.specs.declared.checks.Checked.the-variants.{Passed}
+use Rattle.plan.specs.declared.table.Kind.{Kind}
+use Rattle.plan.specs.declared.table.Kind.the-variants.{PlatformRecord, FlowRecord, EndRecord}
+
+module _ (s : List ℕ) (at : ℕ) (fs : List Flow) {kind : Kind} where
+  pub rest-platform : kind ≡ PlatformRecord → Passed kind ≡ restAt s at kind fs
+  unfolding restAt
+  rest-platform e = rw e
+
+  pub rest-flow : {f : Flow} {r : Checked} → kind ≡ FlowRecord → f ≡ flowAt s at → r ≡ clashAt at f fs → r ≡ restAt s at kind fs
+  unfolding restAt
+  rest-flow e g p = rw (e, ← g) p
+
+  pub rest-end : {r : Checked} → kind ≡ EndRecord → r ≡ tailAt s at → r ≡ restAt s at kind fs
+  unfolding restAt
+  rest-end e p = rw e p
+
+pub ruleset rests = (rest-platform, rest-flow, rest-end)

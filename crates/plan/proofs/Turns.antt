@@ -1,0 +1,113 @@
+-- The turns of the record loop: what has been read so far, and what each way out of a turn makes of it.
+use Prim.Native.Nat.{ℕ, suc, _+_, _-_, _≤_, _<_}
+use native.Mathlib.Omega.{arith}
+use mathlib.Core.Path.{_≡_, sym, ap, _∙_}
+use mathlib.Core.Bool.{Bool, true, false}
+use mathlib.Core.List.{List, [], _∷_, _++_}
+use lib.ListN.{length, getD, take, set, replicate, length-set}
+use lib.Seq.{length-take-le}
+use Rattle.framing.specs.Numbers.{bytesOf, numberAt}
+use Rattle.plan.specs.Table.{bodyLength, fieldsOf, fieldCount, width, refusal, noField}
+use Rattle.plan.specs.Values.{platformAt, flowAt, limitsAt, blankPlatform, blankFlow}
+use Rattle.plan.specs.Checks.{frameAt, outside, restAt, recordAt}
+use Rattle.plan.specs.Reading.{padded, accepted, refused, records, readPlan}
+use Rattle.plan.specs.declared.Platform.{Platform}
+use Rattle.plan.specs.declared.Flow.{Flow}
+use Rattle.plan.specs.declared.checks.Checked.{Checked}
+use Rattle.plan.specs.declared.checks.Checked.the-variants.{Fault, Passed}
+use Rattle.plan.specs.declared.table.Field.{Field}
+use Rattle.plan.specs.declared.values.Limits.{Limits}
+use Rattle.plan.specs.declared.table.Kind.{Kind}
+use Rattle.plan.specs.declared.table.Kind.the-variants.{PlatformRecord, FlowRecord, EndRecord}
+use Rattle.plan.proofs.Order.{framed, flow-room, rest-kind, record-frame, record-field, record-rest, fault-ends, platform-leads, flow-leads, end-accepts}
+use Rattle.plan.proofs.Scan.{Scanning, scanning-none, field-stops, scanning-more, scanned, scanned-place}
+use Rattle.plan.proofs.Padding.{taken-more, padded-more}
+
+-- what has been read before the record at `at`: its platform, its first `count` flows, and that the rest decides
+pub record Sofar (s : List ℕ) (at : ℕ) (p : Platform) (flows : List Flow) (count : ℕ) : Type 0 where
+  pub left : ℕ
+  pub enough : length s ≤ at + left
+  pub few : count ≤ 64
+  pub long : length flows ≡ 64
+  pub blank : flows ≡ padded (take count flows)
+  pub rest : readPlan s ≡ records (suc left) s at p (take count flows)
+
+pub sofar-none : (s : List ℕ) (p : Platform) (flows : List Flow) → p ≡ blankPlatform → flows ≡ replicate 64 blankFlow → Sofar s 0 p flows 0
+unfolding readPlan
+sofar-none s p flows ep ef = record { left = length s; enough = omega arith; few = omega arith; long = rw ef; blank = rw ef; rest = rw ep }
+
+module _ {s : List ℕ} {at : ℕ} {p : Platform} {flows : List Flow} {count : ℕ} (w : Sofar s at p flows count) where
+  same-count : length (take count flows) ≡ count
+  same-count = length-take-le count flows (omega (arith, w .few, w .long))
+
+  pub frame-refuses : {number place : ℕ} → frameAt s at count ≡ Fault number place → refused number place ≡ readPlan s
+  frame-refuses e = sym (w .rest ∙ fault-ends s at p _ _ (record-frame s at p _ (rw same-count e)))
+
+-- what is known inside a record whose frame is without fault, in front of its field k
+pub record Inside (s : List ℕ) (at : ℕ) (p : Platform) (flows : List Flow) (count : ℕ) (kind : Kind) (l : Limits) (k offset : ℕ) : Type 0 where
+  pub sofar : Sofar s at p flows count
+  pub frame : frameAt s at count ≡ Passed kind
+  pub scan : Scanning s at kind p l k offset
+
+pub inside-none : {s : List ℕ} {at : ℕ} {p : Platform} {flows : List Flow} {count : ℕ} {kind : Kind} {l : Limits} → Sofar s at p flows count → frameAt s at count ≡ Passed kind → l ≡ limitsAt s at kind p → Inside s at p flows count kind l 0 3
+inside-none {s} {at} {p} {flows} {count} {kind} w fe e = record { sofar = w; frame = fe; scan = scanning-none s at kind p (framed s at count fe .whole) e }
+
+module _ {s : List ℕ} {at : ℕ} {p : Platform} {flows : List Flow} {count : ℕ} {kind : Kind} {l : Limits} {k offset : ℕ} (w : Inside s at p flows count kind l k offset) where
+  frame-fine : frameAt s at (length (take count flows)) ≡ Passed kind
+  frame-fine = rw (same-count (w .sofar)) (w .frame)
+
+  -- a field, its value and what the check of it said
+  module _ {f : Field} {v : ℕ} {b : Bool} (h : k < fieldCount kind) (e : f ≡ getD (fieldsOf kind) k noField) (q : v ≡ numberAt s (width f) (at + offset)) (o : b ≡ outside l f v) where
+    pub field-refuses : b ≡ true → refused (refusal f) (at + offset) ≡ readPlan s
+    field-refuses t = sym (w .sofar .rest ∙ fault-ends s at p _ _ (record-field s at p _ frame-fine (field-stops (w .scan) h e q (sym o ∙ t))))
+
+    pub inside-more : {n : ℕ} → b ≡ false → n ≡ bytesOf (width f) → Inside s at p flows count kind l (k + 1) (offset + n)
+    inside-more t g = rw g (record { sofar = w .sofar; frame = w .frame; scan = scanning-more (w .scan) h e q (sym o ∙ t) })
+
+  -- behind the last field, and what the checks there said
+  module _ {r : Checked} (h : fieldCount kind ≤ k) (re : r ≡ restAt s at kind (take count flows)) where
+    to-rest : recordAt s at p (take count flows) ≡ r
+    to-rest = record-rest s at p _ frame-fine (scanned (w .scan) h) ∙ sym re
+
+    pub rest-refuses : {number place : ℕ} → r ≡ Fault number place → refused number place ≡ readPlan s
+    rest-refuses e = sym (w .sofar .rest ∙ fault-ends s at p _ _ (to-rest ∙ e))
+
+    module _ {found : Kind} (pe : r ≡ Passed found) where
+      fine : {known : Kind} → kind ≡ known → recordAt s at p (take count flows) ≡ Passed known
+      fine e = to-rest ∙ pe ∙ ap Passed (rest-kind s at kind _ (sym re ∙ pe) ∙ e)
+
+      pub end-accepted : kind ≡ EndRecord → accepted p (take count flows) ≡ readPlan s
+      end-accepted e = sym (w .sofar .rest ∙ end-accepts s at p _ _ (fine e))
+
+      -- a turn is spent, and the place moves on by the record
+      spent : {known : Kind} → kind ≡ known → (w .sofar .left ≡ suc (w .sofar .left - 1)) × (length s ≤ (at + offset) + (w .sofar .left - 1)) × (at + offset ≡ at + (3 + bodyLength known))
+      spent e =
+          let x = scanned-place (w .scan) h in
+          let y = ap bodyLength e in
+          (omega (arith, w .sofar .enough, w .scan .whole), omega (arith, w .sofar .enough, w .scan .whole), omega arith)
+
+      pub platform-taken : {q : Platform} → kind ≡ PlatformRecord → q ≡ platformAt s at → Sofar s (at + offset) q flows count
+      platform-taken {q} e g =
+          let t = spent e in
+          record {
+            left = w .sofar .left - 1;
+            enough = t .1;
+            few = w .sofar .few;
+            long = w .sofar .long;
+            blank = w .sofar .blank;
+            rest = w .sofar .rest ∙ platform-leads s at p _ _ (fine e) ∙ λ i. records (t .0 i) s (sym (t .2) i) (sym g i) (take count flows);
+          }
+
+      pub flow-taken : {f : Flow} → kind ≡ FlowRecord → f ≡ flowAt s at → Sofar s (at + offset) p (set flows count f) (count + 1)
+      flow-taken {f} e g =
+          let t = spent e in
+          let room = flow-room (framed s at count (w .frame)) e in
+          let same : take count flows ++ flowAt s at ∷ [] ≡ take (count + 1) (set flows count f) = ap (λ (x : Flow). take count flows ++ x ∷ []) (sym g) ∙ sym (taken-more flows count f (w .sofar .long) room) in
+          record {
+            left = w .sofar .left - 1;
+            enough = t .1;
+            few = omega arith;
+            long = rw length-set (w .sofar .long);
+            blank = padded-more flows count f (w .sofar .long) room (w .sofar .blank);
+            rest = w .sofar .rest ∙ flow-leads s at p _ _ (fine e) ∙ λ i. records (t .0 i) s (sym (t .2) i) p (same i);
+          }

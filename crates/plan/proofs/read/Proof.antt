@@ -1,0 +1,205 @@
+-- `plan::read` meets its contract: a line for each need, by the lemmas of Turns and Scan.
+use Prim.Native.Nat.{_-_}
+use native.Mathlib.Omega.{arith}
+use mathlib.Core.Path.{sym, ap, _∙_}
+use lib.ListN.{length, replicate}
+use Rattle.plan.specs.Table.{bodyLength, fieldCount}
+use Rattle.plan.proofs.Order.{framed, flow-room}
+use Rattle.plan.proofs.Turns.{Sofar, sofar-none, frame-refuses, Inside, inside-none, field-refuses, inside-more, rest-refuses, end-accepted, platform-taken, flow-taken}
+use Rattle.plan.proofs.Scan.{field-left, field-none, field-inside, scanned-place}
+use borrow.Author.Needs.{needs}
+use Rattle.plan.proofs.read.Statement.{statement}
+use Rattle.plan.proofs.read.Tie as tie
+
+abbrev Inv-loop : tie.InvT-loop
+Inv-loop bytes at platform flows count kind limits k₀ offset₀ k offset = Inside bytes at platform flows count kind limits k offset
+
+abbrev μ-loop : tie.MeasureT-loop
+μ-loop bytes at platform flows count kind limits k₀ offset₀ k offset = fieldCount kind - k
+
+abbrev Inv-records : tie.InvT-records
+Inv-records bytes at₀ platform₀ flows₀ count₀ at platform flows count = Sofar bytes at platform flows count
+
+abbrev μ-records : tie.MeasureT-records
+μ-records bytes at₀ platform₀ flows₀ count₀ at platform flows count = length bytes - at
+
+blank-platform-requires : tie.Need-blank-platform-requires Inv-loop μ-loop Inv-records μ-records
+blank-platform-requires c κs = search needs
+
+blank-flow-requires : tie.Need-blank-flow-requires Inv-loop μ-loop Inv-records μ-records
+blank-flow-requires c κs = search needs
+
+records-holds : tie.Need-records-holds Inv-loop μ-loop Inv-records μ-records
+records-holds c = sofar-none _ _ _ (c .before .blank-platform .ensures) (ap (replicate 64) (c .blank-flow .ensures))
+
+check-frame-requires : tie.Need-check-frame-requires Inv-loop μ-loop Inv-records μ-records
+check-frame-requires c κs = search needs
+
+enum-known-framed : tie.Need-enum-known-framed Inv-loop μ-loop Inv-records μ-records
+enum-known-framed c = search needs
+
+refuse-requires : tie.Need-refuse-requires Inv-loop μ-loop Inv-records μ-records
+refuse-requires c κs = search needs
+
+enum-known-framed-2 : tie.Need-enum-known-framed-2 Inv-loop μ-loop Inv-records μ-records
+enum-known-framed-2 c = search needs
+
+limits-at-requires : tie.Need-limits-at-requires Inv-loop μ-loop Inv-records μ-records
+limits-at-requires c κs = framed _ _ _ (sym (c .before .before .before .check-frame .ensures) ∙ c .before .framed2 .given .1) .whole
+
+loop-holds : tie.Need-loop-holds Inv-loop μ-loop Inv-records μ-records
+loop-holds c = inside-none (c .before .before .before .before .before .records .inv) (sym (c .before .before .before .before .check-frame .ensures) ∙ c .before .before .framed2 .given .1) (c .limits-at .ensures)
+
+field-count-requires : tie.Need-field-count-requires Inv-loop μ-loop Inv-records μ-records
+field-count-requires c κs = search needs
+
+field-of-requires : tie.Need-field-of-requires Inv-loop μ-loop Inv-records μ-records
+field-of-requires c κs = search needs
+
+add-number-at : tie.Need-add-number-at Inv-loop μ-loop Inv-records μ-records
+add-number-at c = omega (arith, field-inside (c .before .before .before .loop .inv .scan) (field-left (c .before .before .field-count .ensures) (c .before .if1 .taken)) (c .field-of .ensures))
+
+number-at-requires : tie.Need-number-at-requires Inv-loop μ-loop Inv-records μ-records
+number-at-requires c κs = field-inside (c .before .before .before .loop .inv .scan) (field-left (c .before .before .field-count .ensures) (c .before .if1 .taken)) (c .field-of .ensures)
+
+is-outside-requires : tie.Need-is-outside-requires Inv-loop μ-loop Inv-records μ-records
+is-outside-requires c κs = search needs
+
+add-refuse : tie.Need-add-refuse Inv-loop μ-loop Inv-records μ-records
+add-refuse c = omega (arith, field-inside (c .before .before .before .before .before .before .loop .inv .scan) (field-left (c .before .before .before .before .before .field-count .ensures) (c .before .before .before .before .if1 .taken)) (c .before .before .before .field-of .ensures))
+
+refuse-requires-2 : tie.Need-refuse-requires-2 Inv-loop μ-loop Inv-records μ-records
+refuse-requires-2 c κs = search needs
+
+bytes-of-requires : tie.Need-bytes-of-requires Inv-loop μ-loop Inv-records μ-records
+bytes-of-requires c κs = search needs
+
+add-offset : tie.Need-add-offset Inv-loop μ-loop Inv-records μ-records
+add-offset c = omega (arith, c .bytes-of .ensures, field-inside (c .before .before .before .before .before .before .before .loop .inv .scan) (field-left (c .before .before .before .before .before .before .field-count .ensures) (c .before .before .before .before .before .if1 .taken)) (c .before .before .before .before .field-of .ensures))
+
+add-k : tie.Need-add-k Inv-loop μ-loop Inv-records μ-records
+add-k c = search needs
+
+loop-less : tie.Need-loop-less Inv-loop μ-loop Inv-records μ-records
+loop-less c = omega (arith, field-left (c .before .before .before .before .before .before .field-count .ensures) (c .before .before .before .before .before .if1 .taken))
+
+loop-again : tie.Need-loop-again Inv-loop μ-loop Inv-records μ-records
+loop-again c = inside-more (c .before .before .before .before .before .before .before .loop .inv) (field-left (c .before .before .before .before .before .before .field-count .ensures) (c .before .before .before .before .before .if1 .taken)) (c .before .before .before .before .field-of .ensures) (c .before .before .before .number-at .ensures) (c .before .before .is-outside .ensures) (c .before .if2 .left) (c .bytes-of .ensures)
+
+check-rest-requires : tie.Need-check-rest-requires Inv-loop μ-loop Inv-records μ-records
+check-rest-requires c κs = (c .before .before .loop .inv .scan .whole, c .before .before .loop .inv .sofar .few)
+
+enum-known-rest : tie.Need-enum-known-rest Inv-loop μ-loop Inv-records μ-records
+enum-known-rest c = search needs
+
+refuse-requires-3 : tie.Need-refuse-requires-3 Inv-loop μ-loop Inv-records μ-records
+refuse-requires-3 c κs = search needs
+
+enum-told : tie.Need-enum-told Inv-loop μ-loop Inv-records μ-records
+enum-told c = search needs
+
+add-next : tie.Need-add-next Inv-loop μ-loop Inv-records μ-records
+add-next c = omega (arith, c .before .before .before .before .before .loop .inv .scan .whole, scanned-place (c .before .before .before .before .before .loop .inv .scan) (field-none (c .before .before .before .before .field-count .ensures) (c .before .before .before .if1 .left)))
+
+enum-told-2 : tie.Need-enum-told-2 Inv-loop μ-loop Inv-records μ-records
+enum-told-2 c = search needs
+
+platform-at-requires : tie.Need-platform-at-requires Inv-loop μ-loop Inv-records μ-records
+platform-at-requires c κs = omega (arith, c .before .before .before .before .before .before .before .loop .inv .scan .whole, ap bodyLength (c .enum-told2 .given .1))
+
+records-less : tie.Need-records-less Inv-loop μ-loop Inv-records μ-records
+records-less c = omega (arith, c .before .before .before .before .before .before .before .before .loop .inv .scan .whole, scanned-place (c .before .before .before .before .before .before .before .before .loop .inv .scan) (field-none (c .before .before .before .before .before .before .before .field-count .ensures) (c .before .before .before .before .before .before .if1 .left)))
+
+records-again : tie.Need-records-again Inv-loop μ-loop Inv-records μ-records
+records-again c = platform-taken (c .before .before .before .before .before .before .before .before .loop .inv) (field-none (c .before .before .before .before .before .before .before .field-count .ensures) (c .before .before .before .before .before .before .if1 .left)) (c .before .before .before .before .before .check-rest .ensures) (c .before .before .before .enum-told .given .1) (c .before .enum-told2 .given .1) (c .platform-at .ensures)
+
+enum-told-3 : tie.Need-enum-told-3 Inv-loop μ-loop Inv-records μ-records
+enum-told-3 c = search needs
+
+flow-at-requires : tie.Need-flow-at-requires Inv-loop μ-loop Inv-records μ-records
+flow-at-requires c κs = omega (arith, c .before .before .before .before .before .before .before .loop .inv .scan .whole, ap bodyLength (c .enum-told3 .given .1))
+
+mul-flows : tie.Need-mul-flows Inv-loop μ-loop Inv-records μ-records
+mul-flows c = omega (arith, c .before .before .before .before .before .before .before .before .loop .inv .sofar .few)
+
+array-set-from-flows : tie.Need-array-set-from-flows Inv-loop μ-loop Inv-records μ-records
+array-set-from-flows c = flow-room (framed _ _ _ (c .before .before .before .before .before .before .before .before .loop .inv .frame)) (c .before .enum-told3 .given .1)
+
+add-count : tie.Need-add-count Inv-loop μ-loop Inv-records μ-records
+add-count c = omega (arith, c .before .before .before .before .before .before .before .before .loop .inv .sofar .few)
+
+records-less-2 : tie.Need-records-less-2 Inv-loop μ-loop Inv-records μ-records
+records-less-2 c = omega (arith, c .before .before .before .before .before .before .before .before .loop .inv .scan .whole, scanned-place (c .before .before .before .before .before .before .before .before .loop .inv .scan) (field-none (c .before .before .before .before .before .before .before .field-count .ensures) (c .before .before .before .before .before .before .if1 .left)))
+
+records-again-2 : tie.Need-records-again-2 Inv-loop μ-loop Inv-records μ-records
+records-again-2 c = flow-taken (c .before .before .before .before .before .before .before .before .loop .inv) (field-none (c .before .before .before .before .before .before .before .field-count .ensures) (c .before .before .before .before .before .before .if1 .left)) (c .before .before .before .before .before .check-rest .ensures) (c .before .before .before .enum-told .given .1) (c .before .enum-told3 .given .1) (c .flow-at .ensures)
+
+enum-told-4 : tie.Need-enum-told-4 Inv-loop μ-loop Inv-records μ-records
+enum-told-4 c = search needs
+
+accept-requires : tie.Need-accept-requires Inv-loop μ-loop Inv-records μ-records
+accept-requires c κs = (c .before .before .before .before .before .before .before .loop .inv .sofar .few, c .before .before .before .before .before .before .before .loop .inv .sofar .blank)
+
+returns : tie.Need-returns Inv-loop μ-loop Inv-records μ-records
+returns c = c .refuse .ensures ∙ frame-refuses (c .before .before .before .before .before .records .inv) (sym (c .before .before .before .before .check-frame .ensures) ∙ c .before .before .framed .given .1)
+
+returns-2 : tie.Need-returns-2 Inv-loop μ-loop Inv-records μ-records
+returns-2 c = c .refuse2 .ensures ∙ field-refuses (c .before .before .before .before .before .before .before .loop .inv) (field-left (c .before .before .before .before .before .before .field-count .ensures) (c .before .before .before .before .before .if1 .taken)) (c .before .before .before .before .field-of .ensures) (c .before .before .before .number-at .ensures) (c .before .before .is-outside .ensures) (c .before .if2 .taken)
+
+returns-3 : tie.Need-returns-3 Inv-loop μ-loop Inv-records μ-records
+returns-3 c = c .refuse3 .ensures ∙ rest-refuses (c .before .before .before .before .before .before .before .loop .inv) (field-none (c .before .before .before .before .before .before .field-count .ensures) (c .before .before .before .before .before .if1 .left)) (c .before .before .before .before .check-rest .ensures) (c .before .before .rest .given .1)
+
+returns-4 : tie.Need-returns-4 Inv-loop μ-loop Inv-records μ-records
+returns-4 c = c .accept .ensures ∙ end-accepted (c .before .before .before .before .before .before .before .before .loop .inv) (field-none (c .before .before .before .before .before .before .before .field-count .ensures) (c .before .before .before .before .before .before .if1 .left)) (c .before .before .before .before .before .check-rest .ensures) (c .before .before .before .enum-told .given .1) (c .before .enum-told4 .given .1)
+
+pub read-spec : {M : Type 1} → statement M
+read-spec =
+    tie.close
+    (tie.spec
+    Inv-loop
+    μ-loop
+    Inv-records
+    μ-records
+    blank-platform-requires
+    blank-flow-requires
+    records-holds
+    check-frame-requires
+    enum-known-framed
+    refuse-requires
+    enum-known-framed-2
+    limits-at-requires
+    loop-holds
+    field-count-requires
+    field-of-requires
+    add-number-at
+    number-at-requires
+    is-outside-requires
+    add-refuse
+    refuse-requires-2
+    bytes-of-requires
+    add-offset
+    add-k
+    loop-less
+    loop-again
+    check-rest-requires
+    enum-known-rest
+    refuse-requires-3
+    enum-told
+    add-next
+    enum-told-2
+    platform-at-requires
+    records-less
+    records-again
+    enum-told-3
+    flow-at-requires
+    mul-flows
+    array-set-from-flows
+    add-count
+    records-less-2
+    records-again-2
+    enum-told-4
+    accept-requires
+    returns
+    returns-2
+    returns-3
+    returns-4)

@@ -1,0 +1,124 @@
+-- Document 01, "What sends a plan back": each line of the table with its number and place, and their order within a record.
+-- `s` is the plan's bytes, `at` the place of the record's tag, `fs` the flows before it, `p` the platform.
+use Prim.Native.Nat.{ℕ, _+_}
+use mathlib.Core.Bool.{Bool, true, false, not, _&&_, _||_}
+use mathlib.Core.List.{List, [], _∷_}
+use lib.ListN.{length}
+use lib.Dec.{leb, ltb, eqb}
+use Rattle.framing.specs.First.{_when_else_}
+use Rattle.framing.specs.Numbers.{bytesOf, numberAt}
+use Rattle.framing.specs.Header.{tagAt, lengthAt, headerCut, bodyCut}
+use Rattle.plan.specs.Table.{tagOf, bodyLength, fieldsOf, width, lowest, highest, refusal}
+use Rattle.plan.specs.Values.{flowAt, limitsAt}
+use Rattle.plan.specs.declared.Platform.{Platform}
+use Rattle.plan.specs.declared.Flow.{Flow}
+use Rattle.plan.specs.declared.table.Kind.{Kind}
+use Rattle.plan.specs.declared.table.Kind.the-variants.{PlatformRecord, FlowRecord, EndRecord}
+use Rattle.plan.specs.declared.table.Tag.{Tag}
+use Rattle.plan.specs.declared.table.Tag.the-variants.{Known, Unknown}
+use Rattle.plan.specs.declared.table.Limit.{Limit}
+use Rattle.plan.specs.declared.table.Limit.the-variants.{UpTo, BelowNodes, UpToPeriod}
+use Rattle.plan.specs.declared.table.Field.{Field}
+use Rattle.plan.specs.declared.values.Limits.{Limits}
+use Rattle.plan.specs.declared.checks.Checked.{Checked}
+use Rattle.plan.specs.declared.checks.Checked.the-variants.{Fault, Passed}
+use Rattle.plan.specs.declared.checks.Taken.{Taken}
+
+abbrev pub isPlatform : Kind → Bool
+isPlatform PlatformRecord = true
+isPlatform FlowRecord = false
+isPlatform EndRecord = false
+
+-- 4: "first record isn't a platform, or a platform comes later"
+abbrev pub misplaced : Bool → Kind → Bool
+misplaced first kind = (first && not (isPlatform kind)) || (not first && isPlatform kind)
+
+-- 3: "length is not the tag's"
+abbrev pub wrongLength : List ℕ → ℕ → Kind → Bool
+wrongLength s at kind = not (eqb (lengthAt s at) (bodyLength kind))
+
+-- 6: "a 65th flow", behind `count` flows
+abbrev pub noRoom : Kind → ℕ → Bool
+noRoom PlatformRecord count = false
+noRoom FlowRecord count = leb 64 count
+noRoom EndRecord count = false
+
+-- "4, 3, body complete (1), 6". The first record is the one at place 0.
+unfoldable pub headerAt : List ℕ → ℕ → Kind → ℕ → Checked
+headerAt s at kind count =
+    Fault 4 at when misplaced (eqb at 0) kind else
+    Fault 3 (at + 1) when wrongLength s at kind else
+    Fault 1 at when bodyCut s at else
+    Fault 6 at when noRoom kind count else
+    Passed kind
+
+-- 2: "unknown tag"
+unfoldable pub taggedAt : List ℕ → ℕ → Tag → ℕ → Checked
+taggedAt s at (Known kind) count = headerAt s at kind count
+taggedAt s at Unknown count = Fault 2 at
+
+-- "header complete (1), 2, .."
+unfoldable pub frameAt : List ℕ → ℕ → ℕ → Checked
+frameAt s at count = Fault 1 at when headerCut s at else taggedAt s at (tagOf (tagAt s at)) count
+
+-- Whether a value is above the highest.
+abbrev pub above : Limits → Limit → ℕ → Bool
+above l (UpTo n) v = ltb n v
+above l BelowNodes v = leb (l .nodes) v
+above l UpToPeriod v = ltb (l .period) v
+
+-- 5: "a field outside its values"
+abbrev pub outside : Limits → Field → ℕ → Bool
+outside l f v = ltb v (lowest f) || above l (highest f) v
+
+-- "then 5 field by field": the fields from the one at this offset of the record on.
+unfoldable pub fieldsFrom : List ℕ → ℕ → Kind → Limits → ℕ → List Field → Checked
+fieldsFrom s at kind l offset [] = Passed kind
+fieldsFrom s at kind l offset (f ∷ fs) =
+    Fault (refusal f) (at + offset) when outside l f (numberAt s (width f) (at + offset)) else
+    fieldsFrom s at kind l (offset + bytesOf (width f)) fs
+
+-- The first field stands behind the tag and the length.
+abbrev pub fieldsAt : List ℕ → ℕ → Kind → Platform → Checked
+fieldsAt s at kind p = fieldsFrom s at kind (limitsAt s at kind p) 3 (fieldsOf kind)
+
+-- Whether one of the flows passes a test.
+abbrev pub some : (Flow → Bool) → List Flow → Bool
+some test [] = false
+some test (f ∷ fs) = test f || some test fs
+
+-- 7, 8: "id equal to an earlier flow's", "priority equal to an earlier flow's"
+abbrev pub taken : List Flow → Flow → Taken
+taken fs f = record { id = some (λ g. eqb (g .id) (f .id)) fs; priority = some (λ g. eqb (g .priority) (f .priority)) fs }
+
+-- "9, 7, 8": "source equals destination" at the destination, then at the id, then at the priority
+unfoldable pub clashAt : ℕ → Flow → List Flow → Checked
+clashAt at f fs =
+    Fault 9 (at + 8) when eqb (f .source) (f .destination) else
+    Fault 7 (at + 3) when taken fs f .id else
+    Fault 8 (at + 5) when taken fs f .priority else
+    Passed FlowRecord
+
+-- 10: "a byte after the end record"
+unfoldable pub tailAt : List ℕ → ℕ → Checked
+tailAt s at = Fault 10 (at + 3) when ltb (at + 3) (length s) else Passed EndRecord
+
+-- Behind the fields.
+unfoldable pub restAt : List ℕ → ℕ → Kind → List Flow → Checked
+restAt s at PlatformRecord fs = Passed PlatformRecord
+restAt s at FlowRecord fs = clashAt at (flowAt s at) fs
+restAt s at EndRecord fs = tailAt s at
+
+infixr 20 _then_
+-- The first fault met decides.
+unfoldable pub _then_ : Checked → Checked → Checked
+(Fault number place) then next = Fault number place
+(Passed kind) then next = next
+
+unfoldable pub bodyAt : List ℕ → ℕ → Checked → Platform → List Flow → Checked
+bodyAt s at (Fault number place) p fs = Fault number place
+bodyAt s at (Passed kind) p fs = fieldsAt s at kind p then restAt s at kind fs
+
+-- "Within a record the order is: header complete (1), 2, 4, 3, body complete (1), 6, then 5 field by field, 9, 7, 8", and for the end record 10.
+unfoldable pub recordAt : List ℕ → ℕ → Platform → List Flow → Checked
+recordAt s at p fs = bodyAt s at (frameAt s at (length fs)) p fs

@@ -1,0 +1,26 @@
+-- Document 01, "The plan's bytes": how a plan's records lie, said without a reader.
+use Prim.Native.Nat.{ℕ, _+_, _*_, _<_}
+use mathlib.Core.Path.{_≡_}
+use mathlib.Core.List.{List}
+use lib.ListN.{length}
+use Rattle.framing.specs.Header.{tagAt, lengthAt}
+use Rattle.plan.specs.Values.{platformAt, flowAt}
+use Rattle.plan.specs.Legal.{flow}
+use Rattle.plan.specs.declared.Platform.{Platform}
+use Rattle.plan.specs.declared.Flow.{Flow}
+
+-- "Every record is a one-byte tag, a two-byte body length and a body": the record at `at` has this tag and length.
+pub record Headed (s : List ℕ) (at tag size : ℕ) : Type 0 where
+  pub tag-is : tagAt s at ≡ tag
+  pub size-is : lengthAt s at ≡ size
+
+-- Flow k's record starts behind the platform record and k flow records.
+abbrev pub place : ℕ → ℕ
+place k = 9 + 23 * k
+
+-- "One platform record, then 0 to 64 flows, then the end record, then nothing."
+pub record Laid (s : List ℕ) (p : Platform) (fs : List Flow) : Type 0 where
+  pub platform : Headed s 0 0x01 6 × (platformAt s 0 ≡ p)
+  pub each : (k : ℕ) → k < length fs → Headed s (place k) 0x02 20 × (flowAt s (place k) ≡ flow fs k)
+  pub end : Headed s (place (length fs)) 0x7F 0
+  pub nothing-else : length s ≡ place (length fs) + 3

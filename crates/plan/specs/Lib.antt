@@ -1,0 +1,8 @@
+-- Document 01, "The plan's bytes" and "What sends a plan back", as definitions that compute.
+pub mod Table
+pub mod Values
+pub mod Checks
+pub mod Reading
+pub mod Legal
+pub mod Layout
+pub mod PlanP

@@ -1,0 +1,82 @@
+-- Document 01, "The plan's bytes": the table of records and their fields, a line here for a line there.
+use Prim.Native.Nat.{ℕ}
+use mathlib.Core.List.{List, [], _∷_}
+use lib.Dec.{eqb}
+use Rattle.framing.specs.First.{_when_else_}
+use Rattle.framing.specs.declared.numbers.Width.{Width}
+use Rattle.framing.specs.declared.numbers.Width.the-variants.{One, Two, Four}
+use Rattle.plan.specs.declared.table.Kind.{Kind}
+use Rattle.plan.specs.declared.table.Kind.the-variants.{PlatformRecord, FlowRecord, EndRecord}
+use Rattle.plan.specs.declared.table.Tag.{Tag}
+use Rattle.plan.specs.declared.table.Tag.the-variants.{Known, Unknown}
+use Rattle.plan.specs.declared.table.Limit.{Limit}
+use Rattle.plan.specs.declared.table.Limit.the-variants.{UpTo, BelowNodes, UpToPeriod}
+use Rattle.plan.specs.declared.table.Field.{Field}
+
+-- Column "Tag": 01 platform, 02 flow, 7F end; any other is unknown.
+unfoldable pub tagOf : ℕ → Tag
+tagOf byte =
+    Known PlatformRecord when eqb byte 0x01 else
+    Known FlowRecord when eqb byte 0x02 else
+    Known EndRecord when eqb byte 0x7F else
+    Unknown
+
+-- Column "Length".
+abbrev pub bodyLength : Kind → ℕ
+bodyLength PlatformRecord = 6
+bodyLength FlowRecord = 20
+bodyLength EndRecord = 0
+
+-- Column "Fields in order (bytes): allowed values". A line is the field's bytes, its lowest value, its highest
+-- (or what that hangs on), and the refusal of a value outside them.
+abbrev pub platformFields : List Field
+platformFields =
+    (One, 1, UpTo 8, 5) ∷  -- columns (1): 1..8
+    (One, 1, UpTo 8, 5) ∷  -- rows (1): 1..8
+    (One, 1, UpTo 16, 5) ∷  -- link cycles (1): 1..16
+    (One, 0, UpTo 16, 5) ∷  -- routing cycles (1): 0..16
+    (One, 1, UpTo 64, 5) ∷  -- buffer flits (1): 1..64
+    (One, 0, UpTo 3, 5) ∷ []  -- method (1): 0..3
+
+abbrev pub flowFields : List Field
+flowFields =
+    (Two, 0, UpTo 65534, 5) ∷  -- id (2): 0..65534
+    (Two, 1, UpTo 65535, 5) ∷  -- priority (2): 1..65535
+    (One, 0, BelowNodes, 5) ∷  -- source (1): below columns x rows
+    (One, 0, BelowNodes, 5) ∷  -- destination (1): below columns x rows
+    (Two, 1, UpTo 65535, 5) ∷  -- flits (2): 1..65535
+    (Four, 1, UpTo 1_000_000_000, 5) ∷  -- period (4): 1..1,000,000,000
+    (Four, 1, UpToPeriod, 5) ∷  -- deadline (4): 1..period
+    (Four, 0, UpTo 1_000_000_000, 5) ∷ []  -- jitter (4): 0..1,000,000,000
+
+abbrev pub fieldsOf : Kind → List Field
+fieldsOf PlatformRecord = platformFields
+fieldsOf FlowRecord = flowFields
+fieldsOf EndRecord = []
+
+-- The columns of a field's line.
+abbrev pub width : Field → Width
+width f = f .0
+
+abbrev pub lowest : Field → ℕ
+lowest f = f .1
+
+abbrev pub highest : Field → Limit
+highest f = f .2
+
+abbrev pub refusal : Field → ℕ
+refusal f = f .3
+
+-- How many fields a record has, and where they begin in the lines of all records; what stands behind the last line.
+abbrev pub fieldCount : Kind → ℕ
+fieldCount PlatformRecord = 6
+fieldCount FlowRecord = 8
+fieldCount EndRecord = 0
+
+abbrev pub firstLine : Kind → ℕ
+firstLine PlatformRecord = 0
+firstLine FlowRecord = 6
+firstLine EndRecord = 14
+
+abbrev pub noField : Field
+noField = (One, 0, UpTo 0, 0)

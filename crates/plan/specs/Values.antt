@@ -1,0 +1,51 @@
+-- Document 01, "The plan's bytes": the values of the record at place `at` of the bytes `s`, its fields in order behind tag and length.
+use Prim.Native.Nat.{ℕ, _+_, _*_}
+use mathlib.Core.List.{List}
+use Rattle.framing.specs.Numbers.{oneAt, twoAt, fourAt}
+use Rattle.plan.specs.declared.Platform.{Platform}
+use Rattle.plan.specs.declared.Flow.{Flow}
+use Rattle.plan.specs.declared.table.Kind.{Kind}
+use Rattle.plan.specs.declared.table.Kind.the-variants.{PlatformRecord, FlowRecord, EndRecord}
+use Rattle.plan.specs.declared.values.Limits.{Limits}
+
+-- "columns (1) .. rows (1) .. link cycles (1) .. routing cycles (1) .. buffer flits (1) .. method (1)"
+abbrev pub platformAt : List ℕ → ℕ → Platform
+platformAt s at =
+    record {
+      columns = oneAt s (at + 3);
+      rows = oneAt s (at + 4);
+      link = oneAt s (at + 5);
+      routing = oneAt s (at + 6);
+      buffer = oneAt s (at + 7);
+      method = oneAt s (at + 8);
+    }
+
+-- "id (2) .. priority (2) .. source (1) and destination (1) .. flits (2) .. period (4) .. deadline (4) .. jitter (4)"
+abbrev pub flowAt : List ℕ → ℕ → Flow
+flowAt s at =
+    record {
+      id = twoAt s (at + 3);
+      priority = twoAt s (at + 5);
+      source = oneAt s (at + 7);
+      destination = oneAt s (at + 8);
+      flits = twoAt s (at + 9);
+      period = fourAt s (at + 11);
+      deadline = fourAt s (at + 15);
+      jitter = fourAt s (at + 19);
+    }
+
+-- "below columns x rows", "1..period": what limits hang on. Only a flow record has a period.
+abbrev pub periodAt : List ℕ → ℕ → Kind → ℕ
+periodAt s at PlatformRecord = 0
+periodAt s at FlowRecord = flowAt s at .period
+periodAt s at EndRecord = 0
+
+abbrev pub limitsAt : List ℕ → ℕ → Kind → Platform → Limits
+limitsAt s at kind p = record { nodes = p .columns * p .rows; period = periodAt s at kind }
+
+-- What stands in a refused plan, and in a plan's array behind its flows: an id that no flow has.
+abbrev pub blankPlatform : Platform
+blankPlatform = record { columns = 0; rows = 0; link = 0; routing = 0; buffer = 0; method = 0 }
+
+abbrev pub blankFlow : Flow
+blankFlow = record { id = 65535; priority = 0; source = 0; destination = 0; flits = 0; period = 0; deadline = 0; jitter = 0 }

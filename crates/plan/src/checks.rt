@@ -1,0 +1,184 @@
+// The checks of document 01, "What sends a plan back", in their order within a record.
+ghost use mathlib.Core.Path.{_≡_};
+ghost use Prim.Native.Nat.{_+_, _^_, _≤_, _<_};
+ghost use lib.ListN.{length, take};
+ghost use Rattle.plan.specs.Table.{bodyLength};
+ghost use Rattle.plan.specs.Checks.{isPlatform, misplaced, wrongLength, noRoom, headerAt, frameAt, above, outside, taken, clashAt, tailAt, restAt};
+use crate::Flow;
+use crate::table::Field;
+use crate::table::Kind;
+use crate::table::Limit;
+use crate::table::Tag;
+use crate::table::body_length;
+use crate::table::tag_of;
+use crate::values::Limits;
+use crate::values::flow_at;
+use framing::header::body_cut;
+use framing::header::header_cut;
+use framing::header::length_at;
+use framing::header::tag_at;
+
+// What checks of a record say: the first fault's number and place, or what record passed them.
+pub enum Checked {
+    Fault(u8, usize),
+    Passed(Kind),
+}
+
+// Which values of a flow an earlier flow has.
+pub struct Taken {
+    pub id: bool,
+    pub priority: bool,
+}
+
+fn is_platform(kind: Kind) -> bool
+    ensures { λ r. ⌜ r ≡ isPlatform kind ⌝ }
+{
+    match kind {
+        Kind::PlatformRecord => true,
+        Kind::FlowRecord => false,
+        Kind::EndRecord => false,
+    }
+}
+
+// 4: the first record isn't a platform, or a platform comes later.
+fn is_misplaced(first: bool, kind: Kind) -> bool
+    ensures { λ r. ⌜ r ≡ misplaced first kind ⌝ }
+{
+    let platform = is_platform(kind);
+    (first & !platform) | (!first & platform)
+}
+
+// 3: the length is not the tag's.
+fn wrong_length(bytes: &[u8], at: usize, kind: Kind) -> bool
+    requires { ⌜ at + 3 ≤ length (now bytes) ⌝ }
+    ensures { λ r. ⌜ r ≡ wrongLength (now (bytes .entry)) at kind ⌝ }
+{
+    length_at(bytes, at) != body_length(kind)
+}
+
+// 6: a 65th flow.
+fn no_room(kind: Kind, count: usize) -> bool
+    ensures { λ r. ⌜ r ≡ noRoom kind count ⌝ }
+{
+    match kind {
+        Kind::PlatformRecord => false,
+        Kind::FlowRecord => 64 <= count,
+        Kind::EndRecord => false,
+    }
+}
+
+// 4, 3, 1, 6: what the record's kind asks of its header.
+fn check_header(bytes: &[u8], at: usize, kind: Kind, count: usize) -> Checked
+    requires { ⌜ at + 3 ≤ length (now bytes) ⌝ }
+    ensures { λ r. ⌜ r ≡ headerAt (now (bytes .entry)) at kind count ⌝ }
+{
+    if is_misplaced(at == 0, kind) {
+        return Checked::Fault(4, at);
+    }
+    if wrong_length(bytes, at, kind) {
+        return Checked::Fault(3, at + 1);
+    }
+    if body_cut(bytes, at) {
+        return Checked::Fault(1, at);
+    }
+    if no_room(kind, count) {
+        return Checked::Fault(6, at);
+    }
+    Checked::Passed(kind)
+}
+
+// 1, 2, and then by the record's kind.
+pub(crate) fn check_frame(bytes: &[u8], at: usize, count: usize) -> Checked
+    ensures { λ r. ⌜ r ≡ frameAt (now (bytes .entry)) at count ⌝ }
+{
+    if header_cut(bytes, at) {
+        return Checked::Fault(1, at);
+    }
+    let tag = tag_of(tag_at(bytes, at));
+    match tag {
+        Tag::Known(kind) => check_header(bytes, at, kind, count),
+        Tag::Unknown => Checked::Fault(2, at),
+    }
+}
+
+fn is_above(limits: Limits, limit: Limit, value: u32) -> bool
+    ensures { λ r. ⌜ r ≡ above limits limit value ⌝ }
+{
+    match limit {
+        Limit::UpTo(highest) => highest < value,
+        Limit::BelowNodes => limits.nodes <= value,
+        Limit::UpToPeriod => limits.period < value,
+    }
+}
+
+// A field outside its values.
+pub(crate) fn is_outside(limits: Limits, field: Field, value: u32) -> bool
+    ensures { λ r. ⌜ r ≡ outside limits field value ⌝ }
+{
+    let Field(_, lowest, limit, _) = field;
+    (value < lowest) | is_above(limits, limit, value)
+}
+
+// Whether an earlier flow has this flow's id, and whether one has its priority.
+fn taken_by(flows: [Flow; 64], count: usize, flow: Flow) -> Taken
+    requires { ⌜ count ≤ 64 ⌝ }
+    ensures { λ r. ⌜ r ≡ taken (take count flows) flow ⌝ }
+{
+    let mut id = false;
+    let mut priority = false;
+    let mut i: usize = 0;
+    while i < count {
+        let earlier = flows[i];
+        id = id | (earlier.id == flow.id);
+        priority = priority | (earlier.priority == flow.priority);
+        i += 1;
+    }
+    Taken { id, priority }
+}
+
+// 9, 7, 8 of the flow in the record at `at`.
+fn check_clash(at: usize, flow: Flow, flows: [Flow; 64], count: usize) -> Checked
+    requires { ⌜ (count ≤ 64) × (at + 23 < 2 ^ 64) ⌝ }
+    ensures { λ r. ⌜ r ≡ clashAt at flow (take count flows) ⌝ }
+{
+    if flow.source == flow.destination {
+        return Checked::Fault(9, at + 8);
+    }
+    let taken = taken_by(flows, count, flow);
+    if taken.id {
+        return Checked::Fault(7, at + 3);
+    }
+    if taken.priority {
+        return Checked::Fault(8, at + 5);
+    }
+    Checked::Passed(Kind::FlowRecord)
+}
+
+// 10: a byte after the end record.
+fn check_tail(bytes: &[u8], at: usize) -> Checked
+    requires { ⌜ at + 3 ≤ length (now bytes) ⌝ }
+    ensures { λ r. ⌜ r ≡ tailAt (now (bytes .entry)) at ⌝ }
+{
+    if at + 3 < bytes.len() {
+        return Checked::Fault(10, at + 3);
+    }
+    Checked::Passed(Kind::EndRecord)
+}
+
+// Behind the fields: 9, 7, 8 of a flow, 10 of the end.
+pub(crate) fn check_rest(
+    bytes: &[u8],
+    at: usize,
+    kind: Kind,
+    flows: [Flow; 64],
+    count: usize,
+) -> Checked
+    requires { ⌜ (at + 3 + bodyLength kind ≤ length (now bytes)) × (count ≤ 64) ⌝ }
+    ensures { λ r. ⌜ r ≡ restAt (now (bytes .entry)) at kind (take count flows) ⌝ }
+{
+    match kind {
+        Kind::PlatformRecord => Checked::Passed(kind),
+        Kind::FlowRecord => check_clash(at, flow_at(bytes, at), flows, count),
+        Kind::EndRecord => check_tail(bytes, at),
+    }
+}

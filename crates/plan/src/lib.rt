@@ -1,0 +1,158 @@
+// The plan reader: from any bytes to a plan by value, or the number and the place of a refusal.
+ghost use mathlib.Core.Path.{_≡_};
+ghost use Prim.Native.Nat.{_≤_};
+ghost use lib.ListN.{take};
+ghost use Rattle.plan.specs.Reading.{numberOf, placeOf, padded, accepted, refused, readPlan};
+use crate::checks::Checked;
+use crate::checks::check_frame;
+use crate::checks::check_rest;
+use crate::checks::is_outside;
+use crate::table::Field;
+use crate::table::Kind;
+use crate::table::field_count;
+use crate::table::field_of;
+use crate::values::blank_flow;
+use crate::values::blank_platform;
+use crate::values::flow_at;
+use crate::values::limits_at;
+use crate::values::platform_at;
+use framing::numbers::bytes_of;
+use framing::numbers::number_at;
+
+mod checks;
+mod table;
+mod values;
+
+pub struct Platform {
+    pub columns: u8,
+    pub rows: u8,
+    pub link: u8,
+    pub routing: u8,
+    pub buffer: u8,
+    pub method: u8,
+}
+
+pub struct Flow {
+    pub id: u16,
+    pub priority: u16,
+    pub source: u8,
+    pub destination: u8,
+    pub flits: u16,
+    pub period: u32,
+    pub deadline: u32,
+    pub jitter: u32,
+}
+
+// The flows are the first `count`; blanks, whose id no flow has, stand behind them.
+pub struct Plan {
+    pub platform: Platform,
+    pub flows: [Flow; 64],
+    pub count: usize,
+}
+
+// What a reading came to: acceptance, or a refusal's number and place.
+pub enum Outcome {
+    Accepted,
+    Refused(u8, usize),
+}
+
+impl Outcome {
+    // Acceptance is number 0.
+    pub fn number(self) -> u8
+        ensures { λ r. ⌜ r ≡ numberOf self ⌝ }
+    {
+        match self {
+            Outcome::Accepted => 0,
+            Outcome::Refused(number, _) => number,
+        }
+    }
+
+    pub fn place(self) -> usize
+        ensures { λ r. ⌜ r ≡ placeOf self ⌝ }
+    {
+        match self {
+            Outcome::Accepted => 0,
+            Outcome::Refused(_, place) => place,
+        }
+    }
+}
+
+// A refused reading holds a blank plan.
+pub struct Reading {
+    pub outcome: Outcome,
+    pub plan: Plan,
+}
+
+fn accept(platform: Platform, flows: [Flow; 64], count: usize) -> Reading
+    requires { ⌜ (count ≤ 64) × (flows ≡ padded (take count flows)) ⌝ }
+    ensures { λ r. ⌜ r ≡ accepted platform (take count flows) ⌝ }
+{
+    Reading {
+        outcome: Outcome::Accepted,
+        plan: Plan {
+            platform,
+            flows,
+            count,
+        },
+    }
+}
+
+fn refuse(number: u8, place: usize) -> Reading
+    ensures { λ r. ⌜ r ≡ refused number place ⌝ }
+{
+    Reading {
+        outcome: Outcome::Refused(number, place),
+        plan: Plan {
+            platform: blank_platform(),
+            flows: [blank_flow(); 64],
+            count: 0,
+        },
+    }
+}
+
+// The plan that the bytes hold, or the first fault's number and place.
+pub fn read(bytes: &[u8]) -> Reading
+    ensures { λ r. ⌜ r ≡ readPlan (now (bytes .entry)) ⌝ }
+{
+    let mut at: usize = 0;
+    let mut platform = blank_platform();
+    let mut flows = [blank_flow(); 64];
+    let mut count: usize = 0;
+    'records: loop {
+        let framed = check_frame(bytes, at, count);
+        let kind = match framed {
+            Checked::Fault(number, place) => break 'records refuse(number, place),
+            Checked::Passed(kind) => kind,
+        };
+        let limits = limits_at(bytes, at, kind, platform);
+        let mut k: usize = 0;
+        let mut offset: usize = 3;
+        while k < field_count(kind) {
+            let field = field_of(kind, k);
+            let Field(width, _, _, refusal) = field;
+            let value = number_at(bytes, width, at + offset);
+            if is_outside(limits, field, value) {
+                break 'records refuse(refusal, at + offset);
+            }
+            offset += bytes_of(width);
+            k += 1;
+        }
+        let rest = check_rest(bytes, at, kind, flows, count);
+        if let Checked::Fault(number, place) = rest {
+            break 'records refuse(number, place);
+        }
+        let next = at + offset;
+        match kind {
+            Kind::PlatformRecord => {
+                platform = platform_at(bytes, at);
+                at = next;
+            }
+            Kind::FlowRecord => {
+                flows[count] = flow_at(bytes, at);
+                count += 1;
+                at = next;
+            }
+            Kind::EndRecord => break 'records accept(platform, flows, count),
+        }
+    }
+}

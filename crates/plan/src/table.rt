@@ -1,0 +1,95 @@
+// Document 01's table of records and their fields: a line here for a line there.
+ghost use mathlib.Core.Path.{_≡_};
+ghost use Prim.Native.Nat.{_<_};
+ghost use lib.ListN.{getD};
+ghost use Rattle.plan.specs.Table.{tagOf, bodyLength, fieldCount, firstLine, fieldsOf, noField};
+use framing::numbers::Width;
+
+// The records of a plan.
+pub enum Kind {
+    PlatformRecord,
+    FlowRecord,
+    EndRecord,
+}
+
+// What a tag says.
+pub enum Tag {
+    Known(Kind),
+    Unknown,
+}
+
+// The highest allowed value: a number, or one that hangs on the platform or on the record.
+pub enum Limit {
+    UpTo(u32),
+    BelowNodes,
+    UpToPeriod,
+}
+
+// Bytes, lowest value, highest value, and the refusal of a value outside them.
+pub struct Field(pub Width, pub u32, pub Limit, pub u8);
+
+const FIELDS: [Field; 14] = [
+    Field(Width::One, 1, Limit::UpTo(8), 5), // columns
+    Field(Width::One, 1, Limit::UpTo(8), 5), // rows
+    Field(Width::One, 1, Limit::UpTo(16), 5), // link cycles
+    Field(Width::One, 0, Limit::UpTo(16), 5), // routing cycles
+    Field(Width::One, 1, Limit::UpTo(64), 5), // buffer flits
+    Field(Width::One, 0, Limit::UpTo(3), 5), // method
+    Field(Width::Two, 0, Limit::UpTo(65534), 5), // id
+    Field(Width::Two, 1, Limit::UpTo(65535), 5), // priority
+    Field(Width::One, 0, Limit::BelowNodes, 5), // source
+    Field(Width::One, 0, Limit::BelowNodes, 5), // destination
+    Field(Width::Two, 1, Limit::UpTo(65535), 5), // flits
+    Field(Width::Four, 1, Limit::UpTo(1_000_000_000), 5), // period
+    Field(Width::Four, 1, Limit::UpToPeriod, 5), // deadline
+    Field(Width::Four, 0, Limit::UpTo(1_000_000_000), 5), // jitter
+];
+
+pub(crate) fn tag_of(byte: u8) -> Tag
+    ensures { λ r. ⌜ r ≡ tagOf byte ⌝ }
+{
+    match byte {
+        0x01 => Tag::Known(Kind::PlatformRecord),
+        0x02 => Tag::Known(Kind::FlowRecord),
+        0x7f => Tag::Known(Kind::EndRecord),
+        _ => Tag::Unknown,
+    }
+}
+
+pub(crate) fn body_length(kind: Kind) -> u16
+    ensures { λ r. ⌜ r ≡ bodyLength kind ⌝ }
+{
+    match kind {
+        Kind::PlatformRecord => 6,
+        Kind::FlowRecord => 20,
+        Kind::EndRecord => 0,
+    }
+}
+
+pub(crate) fn field_count(kind: Kind) -> usize
+    ensures { λ r. ⌜ r ≡ fieldCount kind ⌝ }
+{
+    match kind {
+        Kind::PlatformRecord => 6,
+        Kind::FlowRecord => 8,
+        Kind::EndRecord => 0,
+    }
+}
+
+// Where a record's lines begin in the table.
+fn first_line(kind: Kind) -> usize
+    ensures { λ r. ⌜ r ≡ firstLine kind ⌝ }
+{
+    match kind {
+        Kind::PlatformRecord => 0,
+        Kind::FlowRecord => 6,
+        Kind::EndRecord => 14,
+    }
+}
+
+pub(crate) fn field_of(kind: Kind, k: usize) -> Field
+    requires { ⌜ k < fieldCount kind ⌝ }
+    ensures { λ r. ⌜ r ≡ getD (fieldsOf kind) k noField ⌝ }
+{
+    FIELDS[first_line(kind) + k]
+}
