@@ -1,0 +1,103 @@
+// Reads the plans of data/plans one after the other and prints a line for each: the outcome's number and place, and what
+// an accepted plan holds. A plan stands there behind its length in two bytes.
+use framing::numbers::two_at;
+use libc::STDOUT_FILENO;
+use plan::Flow;
+use plan::Platform;
+use plan::Reading;
+
+fn put(n: u64) {
+    io::print_decimal(STDOUT_FILENO, n);
+    io::write_all(STDOUT_FILENO, b" ");
+}
+
+fn put_platform(p: Platform) {
+    put(p.columns as u64);
+    put(p.rows as u64);
+    put(p.link as u64);
+    put(p.routing as u64);
+    put(p.buffer as u64);
+    put(p.method as u64);
+}
+
+fn put_flow(f: Flow) {
+    put(f.id as u64);
+    put(f.priority as u64);
+    put(f.source as u64);
+    put(f.destination as u64);
+    put(f.flits as u64);
+    put(f.period as u64);
+    put(f.deadline as u64);
+    put(f.jitter as u64);
+}
+
+fn put_flows(flows: [Flow; 64], count: usize) {
+    let mut i: usize = 0;
+    while i < 64 {
+        if i < count {
+            put_flow(flows[i]);
+        }
+        i += 1;
+    }
+}
+
+fn put_reading(reading: Reading) {
+    let outcome = reading.outcome;
+    let plan = reading.plan;
+    let flows = plan.flows;
+    put(outcome.number() as u64);
+    put(outcome.place() as u64);
+    put_platform(plan.platform);
+    put_flows(flows, plan.count);
+    io::write_all(STDOUT_FILENO, b"\n");
+}
+
+// Fills the first n bytes, or answers false where the file ends before or there are not as many.
+fn fill(file: i32, into: &mut [u8], n: usize) -> bool {
+    if into.len() < n {
+        return false;
+    }
+    io::read_full(file, &mut into[..n]) == n
+}
+
+fn put_first(bytes: &[u8], n: usize) {
+    if n <= bytes.len() {
+        put_reading(plan::read(&bytes[..n]));
+    }
+}
+
+// The length that stands in front of the next plan, or 0 where the file ends.
+fn next_length(file: i32) -> usize {
+    let mut head = [0u8; 2];
+    if fill(file, &mut head, 2) {
+        return two_at(&head, 0) as usize;
+    }
+    0
+}
+
+// The next plan's line, or false where the file ends.
+fn next_plan(file: i32) -> bool {
+    let n = next_length(file);
+    let mut buffer = [0u8; 4096];
+    if fill(file, &mut buffer, n) {
+        put_first(&buffer, n);
+        return true;
+    }
+    false
+}
+
+fn main() {
+    let name = b"plans";
+    let file = os::open_read(name);
+    if file < 0 {
+        os::fail(name);
+        return;
+    }
+    let mut left: usize = 10000;
+    while 0 < left {
+        left -= 1;
+        if next_plan(file) == false {
+            left = 0;
+        }
+    }
+}
