@@ -14,7 +14,8 @@ use Rattle.framing.specs.Header.{lengthAt}
 use Rattle.plan.specs.Table.{bodyLength, fieldsOf}
 use Rattle.plan.specs.Values.{flowAt, limitsAt, blankPlatform, blankFlow}
 use Rattle.plan.specs.Checks.{misplaced, noRoom, headerAt, taggedAt, frameAt, some, clashAt, tailAt, restAt, recordAt}
-use Rattle.plan.specs.Reading.{padded, accepted, refused, records, readPlan}
+use Rattle.plan.specs.Reading.{accepted, refused, records, readPlan}
+use Rattle.plan.specs.Padded.{padded}
 use Rattle.plan.specs.Legal.{Distinct, Legal, flow}
 use Rattle.plan.specs.Layout.{Headed, place, Laid}
 use Rattle.plan.specs.declared.Platform.{Platform}
@@ -116,7 +117,7 @@ same-plan : (p q : Platform) (fs gs : List Flow) → accepted p fs ≡ accepted 
 unfolding accepted
 same-plan p q fs gs e =
     let n : length fs ≡ length gs = ap (λ (r : Reading). r .plan .count) e in
-    let l : padded fs ≡ padded gs = ap (λ (r : Reading). r .plan .flows) e in
+    let l : padded blankFlow fs ≡ padded blankFlow gs = ap (λ (r : Reading). r .plan .flows) e in
     (ap (λ (r : Reading). r .plan .platform) e, sym (take-at fs _ (length fs) refl) ∙ ap (take (length fs)) l ∙ take-at gs _ (length fs) (sym n))
 
 accepted-laid : (s : List ℕ) (p : Platform) (fs : List Flow) → readPlan s ≡ accepted p fs → Laid s p fs × Legal p fs

@@ -2,7 +2,7 @@ mod Tags
 mod Searches
 mod Fits
 mod Rests
-mod Padding
+pub mod Padding
 mod Order
 mod Scan
 mod Turns

@@ -10,7 +10,8 @@ use Rattle.framing.specs.Numbers.{bytesOf, numberAt}
 use Rattle.plan.specs.Table.{bodyLength, fieldsOf, fieldCount, width, refusal, noField}
 use Rattle.plan.specs.Values.{platformAt, flowAt, limitsAt, blankPlatform, blankFlow}
 use Rattle.plan.specs.Checks.{frameAt, outside, restAt, recordAt}
-use Rattle.plan.specs.Reading.{padded, accepted, refused, records, readPlan}
+use Rattle.plan.specs.Reading.{accepted, refused, records, readPlan}
+use Rattle.plan.specs.Padded.{padded}
 use Rattle.plan.specs.declared.Platform.{Platform}
 use Rattle.plan.specs.declared.Flow.{Flow}
 use Rattle.plan.specs.declared.checks.Checked.{Checked}
@@ -29,7 +30,7 @@ pub record Sofar (s : List ℕ) (at : ℕ) (p : Platform) (flows : List Flow) (c
   pub enough : length s ≤ at + left
   pub few : count ≤ 64
   pub long : length flows ≡ 64
-  pub blank : flows ≡ padded (take count flows)
+  pub blank : flows ≡ padded blankFlow (take count flows)
   pub rest : readPlan s ≡ records (suc left) s at p (take count flows)
 
 pub sofar-none : (s : List ℕ) (p : Platform) (flows : List Flow) → p ≡ blankPlatform → flows ≡ replicate 64 blankFlow → Sofar s 0 p flows 0

@@ -2,6 +2,7 @@
 pub mod Table
 pub mod Values
 pub mod Checks
+pub mod Padded
 pub mod Reading
 pub mod Legal
 pub mod Layout

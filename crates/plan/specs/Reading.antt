@@ -1,8 +1,9 @@
 -- Document 01, "What sends a plan back": from any bytes to a plan, or to a refusal's number and place.
-use Prim.Native.Nat.{ℕ, zero, suc, _+_, _-_}
+use Prim.Native.Nat.{ℕ, zero, suc, _+_}
 use mathlib.Core.List.{List, [], _∷_, _++_}
-use lib.ListN.{length, replicate}
+use lib.ListN.{length}
 use Rattle.plan.specs.Values.{platformAt, flowAt, blankPlatform, blankFlow}
+use Rattle.plan.specs.Padded.{padded}
 use Rattle.plan.specs.Checks.{recordAt}
 use Rattle.plan.specs.declared.Platform.{Platform}
 use Rattle.plan.specs.declared.Flow.{Flow}
@@ -23,12 +24,8 @@ abbrev pub placeOf : Outcome → ℕ
 placeOf Accepted = 0
 placeOf (Refused number place) = place
 
--- A plan's flows, and blanks up to 64.
-abbrev pub padded : List Flow → List Flow
-padded fs = fs ++ replicate (64 - length fs) blankFlow
-
 abbrev pub planOf : Platform → List Flow → Plan
-planOf p fs = record { platform = p; flows = padded fs; count = length fs }
+planOf p fs = record { platform = p; flows = padded blankFlow fs; count = length fs }
 
 unfoldable pub accepted : Platform → List Flow → Reading
 accepted p fs = record { outcome = Accepted; plan = planOf p fs }

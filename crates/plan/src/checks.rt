@@ -5,6 +5,7 @@ ghost use lib.ListN.{length, take};
 ghost use Rattle.plan.specs.Table.{bodyLength};
 ghost use Rattle.plan.specs.Checks.{isPlatform, misplaced, wrongLength, noRoom, headerAt, frameAt, above, outside, taken, clashAt, tailAt, restAt};
 use crate::Flow;
+use crate::Flows;
 use crate::table::Field;
 use crate::table::Kind;
 use crate::table::Limit;
@@ -120,7 +121,7 @@ pub(crate) fn is_outside(limits: Limits, field: Field, value: u32) -> bool
 }
 
 // Whether an earlier flow has this flow's id, and whether one has its priority.
-fn taken_by(flows: [Flow; 64], count: usize, flow: Flow) -> Taken
+fn taken_by(flows: Flows, count: usize, flow: Flow) -> Taken
     requires { ⌜ count ≤ 64 ⌝ }
     ensures { λ r. ⌜ r ≡ taken (take count flows) flow ⌝ }
 {
@@ -137,7 +138,7 @@ fn taken_by(flows: [Flow; 64], count: usize, flow: Flow) -> Taken
 }
 
 // 9, 7, 8 of the flow in the record at `at`.
-fn check_clash(at: usize, flow: Flow, flows: [Flow; 64], count: usize) -> Checked
+fn check_clash(at: usize, flow: Flow, flows: Flows, count: usize) -> Checked
     requires { ⌜ (count ≤ 64) × (at + 23 < 2 ^ 64) ⌝ }
     ensures { λ r. ⌜ r ≡ clashAt at flow (take count flows) ⌝ }
 {
@@ -166,13 +167,7 @@ fn check_tail(bytes: &[u8], at: usize) -> Checked
 }
 
 // Behind the fields: 9, 7, 8 of a flow, 10 of the end.
-pub(crate) fn check_rest(
-    bytes: &[u8],
-    at: usize,
-    kind: Kind,
-    flows: [Flow; 64],
-    count: usize,
-) -> Checked
+pub(crate) fn check_rest(bytes: &[u8], at: usize, kind: Kind, flows: Flows, count: usize) -> Checked
     requires { ⌜ (at + 3 + bodyLength kind ≤ length (now bytes)) × (count ≤ 64) ⌝ }
     ensures { λ r. ⌜ r ≡ restAt (now (bytes .entry)) at kind (take count flows) ⌝ }
 {

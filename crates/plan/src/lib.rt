@@ -2,7 +2,9 @@
 ghost use mathlib.Core.Path.{_≡_};
 ghost use Prim.Native.Nat.{_≤_};
 ghost use lib.ListN.{take};
-ghost use Rattle.plan.specs.Reading.{numberOf, placeOf, padded, accepted, refused, readPlan};
+ghost use Rattle.plan.specs.Reading.{numberOf, placeOf, accepted, refused, readPlan};
+ghost use Rattle.plan.specs.Padded.{padded};
+ghost use Rattle.plan.specs.Values.{blankFlow};
 use crate::checks::Checked;
 use crate::checks::check_frame;
 use crate::checks::check_rest;
@@ -43,10 +45,13 @@ pub struct Flow {
     pub jitter: u32,
 }
 
+// Room for the flows of a plan.
+pub type Flows = [Flow; 64];
+
 // The flows are the first `count`; blanks, whose id no flow has, stand behind them.
 pub struct Plan {
     pub platform: Platform,
-    pub flows: [Flow; 64],
+    pub flows: Flows,
     pub count: usize,
 }
 
@@ -83,8 +88,8 @@ pub struct Reading {
     pub plan: Plan,
 }
 
-fn accept(platform: Platform, flows: [Flow; 64], count: usize) -> Reading
-    requires { ⌜ (count ≤ 64) × (flows ≡ padded (take count flows)) ⌝ }
+fn accept(platform: Platform, flows: Flows, count: usize) -> Reading
+    requires { ⌜ (count ≤ 64) × (flows ≡ padded blankFlow (take count flows)) ⌝ }
     ensures { λ r. ⌜ r ≡ accepted platform (take count flows) ⌝ }
 {
     Reading {

@@ -3,6 +3,7 @@
 use framing::numbers::two_at;
 use libc::STDOUT_FILENO;
 use plan::Flow;
+use plan::Flows;
 use plan::Platform;
 use plan::Reading;
 
@@ -31,7 +32,7 @@ fn put_flow(f: Flow) {
     put(f.jitter as u64);
 }
 
-fn put_flows(flows: [Flow; 64], count: usize) {
+fn put_flows(flows: Flows, count: usize) {
     let mut i: usize = 0;
     while i < 64 {
         if i < count {
