@@ -1,0 +1,4 @@
+-- What the crate's contracts cite, and worked examples of it.
+pub mod Mesh
+pub mod Shared
+pub mod Examples

@@ -1,0 +1,3 @@
+// Routes and shared links of one rectangular mesh (document 01, "Routes and shared links").
+pub mod route;
+pub mod shared;
