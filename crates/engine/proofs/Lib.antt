@@ -1,0 +1,3 @@
+mod Filling
+mod Tables
+pub mod Cells

@@ -1,0 +1,2 @@
+// From a plan to its answers.
+pub mod pairs;
