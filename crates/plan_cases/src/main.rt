@@ -67,13 +67,13 @@ fn put_first(bytes: &[u8], n: usize) {
     }
 }
 
-// The length that stands in front of the next plan, or 0 where the file ends.
+// The length that stands in front of the next plan, or one that no plan has where the file ends.
 fn next_length(file: i32) -> usize {
     let mut head = [0u8; 2];
     if fill(file, &mut head, 2) {
         return two_at(&head, 0) as usize;
     }
-    0
+    65536
 }
 
 // The next plan's line, or false where the file ends.
