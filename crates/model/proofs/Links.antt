@@ -22,13 +22,16 @@ ends {p} a w = record {
   to = record { rows = p .rows; wide = a .columns; high = a .rows .1; inside = w .destination };
 }
 
+-- "Route length = column distance + row distance + 2, so 3 to 16."
+pub route-within : {p : Platform} {f : Flow} → LegalPlatform p → LegalFlow p f → (3 ≤ length (routeOf p f)) × (length (routeOf p f) ≤ 16)
+route-within {p} {f} a w = (route-least (p .columns) (f .source) (f .destination) (w .moves), route-most (ends a w))
+
 module _ {p : Platform} {fs : List Flow} (w : Legal p fs) where
   pub ends-of : (k : ℕ) → k < length fs → Ends (p .columns) (flow fs k .source) (flow fs k .destination)
   ends-of k h = ends (w .platform) (w .each k h)
 
-  -- "Route length = column distance + row distance + 2, so 3 to 16."
   pub lengths : (k : ℕ) → k < length fs → (3 ≤ length (routeOf p (flow fs k))) × (length (routeOf p (flow fs k)) ≤ 16)
-  lengths k h = (route-least (p .columns) (flow fs k .source) (flow fs k .destination) (w .each k h .moves), route-most (ends-of k h))
+  lengths k h = route-within (w .platform) (w .each k h)
 
   -- "The contention domain of two flows .. is empty or one unbroken run on each route, in the same order on both."
   pub domain-is-one-run : (i j : ℕ) → i < length fs → j < length fs → OneRun (routeOf p (flow fs i)) (routeOf p (flow fs j))

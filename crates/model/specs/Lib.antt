@@ -1,2 +1,7 @@
 -- Document 01's rules, over the flows of a plan.
 pub mod Links
+pub mod Latency
+pub mod Interference
+pub mod Delays
+pub mod Verdicts
+pub mod Rules

@@ -1,10 +1,10 @@
 -- An array of 64 that is filled from its start, with blanks behind.
-use Prim.Native.Nat.{ℕ, suc, _+_, _-_, _≤_, _<_}
+use Prim.Native.Nat.{ℕ, zero, suc, _+_, _-_, _≤_, _<_}
 use native.Mathlib.Omega.{arith}
 use native.Mathlib.Numerals.{add-one}
-use mathlib.Core.Path.{_≡_, sym, ap, _∙_}
+use mathlib.Core.Path.{_≡_, refl, sym, ap, _∙_}
 use mathlib.Core.List.{List, [], _∷_, _++_}
-use lib.ListN.{length, take, set, replicate, length-append, length-replicate}
+use lib.ListN.{length, getD, take, set, replicate, length-append, length-replicate}
 use lib.Seq.{take-suc-set, length-take-le, set-at, append-snoc}
 use Rattle.plan.specs.Padded.{padded}
 use Rattle.plan.specs.Values.{blankFlow}
@@ -27,6 +27,20 @@ module _ {A : Type 0} (blank : A) where
 
   pub length-padded : (xs : List A) → length xs ≤ 64 → length (padded blank xs) ≡ 64
   length-padded xs h = length-append xs (replicate (64 - length xs) blank) ∙ omega (arith, length-replicate {A = A} (64 - length xs) blank)
+
+  -- what stands behind
+  blanks : (n k : ℕ) → getD (replicate n blank) k blank ≡ blank
+  blanks zero k = refl
+  blanks (suc n) zero = refl
+  blanks (suc n) (suc k) = blanks n k
+
+  behind : (xs : List A) (n k : ℕ) → length xs ≤ k → getD (xs ++ replicate n blank) k blank ≡ blank
+  behind [] n k h = blanks n k
+  behind (x ∷ xs) n zero h = absurd (omega arith)
+  behind (x ∷ xs) n (suc k) h = behind xs n k (omega arith)
+
+  pub padded-behind : (xs : List A) (k : ℕ) → length xs ≤ k → getD (padded blank xs) k blank ≡ blank
+  padded-behind xs k h = behind xs (64 - length xs) k h
 
 -- the flows so far
 pub accepted-is : (p : Platform) (flows : List Flow) (n : ℕ) → length flows ≡ 64 → n ≤ 64 → flows ≡ padded blankFlow (take n flows) → record { outcome = Accepted; plan = record { platform = p; flows = flows; count = n } } ≡ accepted p (take n flows)

@@ -1,0 +1,110 @@
+-- What plan P cannot show, since its link cycles are 1, its routing cycles and jitters 0, and its mesh one row: computed from the definitions alone.
+use Prim.Native.Nat.{ℕ}
+use mathlib.Core.Path.{_≡_, refl}
+use mathlib.Core.List.{List, [], _∷_, map}
+use Rattle.framing.specs.First.{_when_else_}
+use Rattle.plan.specs.declared.Platform.{Platform}
+use Rattle.plan.specs.declared.Flow.{Flow}
+use Rattle.mesh.specs.declared.shared.Pair.{Pair}
+use Rattle.mesh.specs.Mesh.{hops, along, xy}
+use Rattle.mesh.specs.Shared.{on, domain, first-from}
+use Rattle.recurrence.specs.Rounding.{up}
+use Rattle.recurrence.specs.Sums.{sumOver}
+use Rattle.recurrence.specs.Outcome.{outcomeFrom, outcome}
+use Rattle.model.specs.declared.Method.the-variants.{SB, XLWX, IBN}
+use Rattle.model.specs.declared.Verdict.{Verdict}
+use Rattle.model.specs.declared.Verdict.the-variants.{Bounded, Late, Waits}
+use Rattle.model.specs.Links.{pairOf}
+use Rattle.model.specs.Latency.{methodUsed, latency}
+use Rattle.model.specs.Interference.{directFor, indirectFor, comesBefore, those}
+use Rattle.model.specs.Delays.{allowance, weight, term, terms}
+use Rattle.model.specs.Verdicts.{highest, judged, judge, verdictBelow, verdict, answers}
+
+abbrev mesh : (columns rows link routing buffer method : ℕ) → Platform
+mesh columns rows link routing buffer method = record { columns = columns; rows = rows; link = link; routing = routing; buffer = buffer; method = method }
+
+-- A line of six nodes with link cycles 1 and routing cycles 0, as in P.
+abbrev line : (buffer method : ℕ) → Platform
+line = mesh 6 1 1 0
+
+abbrev flow : (id priority source destination flits period deadline jitter : ℕ) → Flow
+flow id priority source destination flits period deadline jitter =
+    record { id = id; priority = priority; source = source; destination = destination; flits = flits; period = period; deadline = deadline; jitter = jitter }
+
+abbrev pair : (count first : ℕ) → Pair
+pair count first = record { count = count; first = first }
+
+-- A plan, and the verdicts of its flows in plan order.
+pub record Example : Type 0 where
+  pub platform : Platform
+  pub flows : List Flow
+  pub verdicts : List Verdict
+
+abbrev example : Platform → List Flow → List Verdict → Example
+example p fs vs = record { platform = p; flows = fs; verdicts = vs }
+
+-- "0 asks for the house default, which is XLWX"
+methods : map (λ m. methodUsed (line 1 m)) (0 ∷ 1 ∷ 2 ∷ 3 ∷ []) ≡ XLWX ∷ SB ∷ XLWX ∷ IBN ∷ []
+unfolding methodUsed _when_else_
+methods = refl
+
+-- C with link cycles 3 and routing cycles 2: on a line, with 4 links, 3 x (10 + 4 - 1) + 2 x (4 - 1); over a corner, with 5, 3 x (10 + 5 - 1) + 2 x (5 - 1).
+latencies :
+    (latency (mesh 6 1 3 2 1 0) (flow 1 1 0 2 10 100 100 0) ≡ 45) × (latency (mesh 3 2 3 2 1 0) (flow 1 1 0 5 10 100 100 0) ≡ 50)
+unfolding latency hops along xy
+latencies = (refl, refl)
+
+-- Three columns and two rows: flow 1 goes 1, 2, 5, flow 2 goes 3, 4, 5, and flow 3 goes 0, 1, 2, 5.
+abbrev over-corners : List Flow
+over-corners = flow 1 1 1 5 10 100 100 0 ∷ flow 2 2 3 5 10 100 100 0 ∷ flow 3 3 0 5 20 100 100 0 ∷ []
+
+pairs :
+    map (λ i. map (pairOf (mesh 3 2 1 0 1 0) i) over-corners) over-corners
+    ≡ (pair 4 0 ∷ pair 1 3 ∷ pair 3 1 ∷ []) ∷ (pair 1 3 ∷ pair 4 0 ∷ pair 1 3 ∷ []) ∷ (pair 3 2 ∷ pair 1 4 ∷ pair 5 0 ∷ []) ∷ []
+unfolding hops along xy on domain first-from
+pairs = refl
+
+-- B is buffer flits x 3 link cycles x 3 links; C is 66, 108 and 132, and flow 2's bound 108 + 66.
+abbrev buffers : List Flow
+buffers = flow 1 1 4 5 20 300 300 0 ∷ flow 2 2 0 5 30 1000 1000 0 ∷ flow 3 3 1 4 40 2000 2000 0 ∷ []
+
+-- Flow 1 is upstream and flow 2 downstream of flow 3 for flow 4: C is 10, 20, 50 and 30, flow 3's bound 80. Two packets of flow 3 come under each method.
+abbrev both-sides : List Flow
+both-sides = flow 1 1 0 1 8 100 100 0 ∷ flow 2 2 4 5 18 100 100 0 ∷ flow 3 3 0 5 44 105 105 0 ∷ flow 4 4 2 3 28 2000 2000 0 ∷ []
+
+abbrev table : List Example
+table =
+    -- 13; 13 + 13; 24 + 13 + 13, and flow 1, direct for flow 3 too, is no part of flow 2's weight
+    example (mesh 3 2 1 0 1 0) over-corners (Bounded 13 1 ∷ Bounded 26 2 ∷ Bounded 50 2 ∷ [])
+    -- B is 18, below C of flow 1: 132 + 108 + 18
+    ∷ example (mesh 6 1 3 0 2 3) buffers (Bounded 66 1 ∷ Bounded 174 2 ∷ Bounded 258 2 ∷ [])
+    -- B is 576, above it: 132 + 108 + 66
+    ∷ example (mesh 6 1 3 0 64 3) buffers (Bounded 66 1 ∷ Bounded 174 2 ∷ Bounded 306 2 ∷ [])
+    -- jitter: flow 1's brings a second packet and a second hit, up((70 + 60) / 100), so that flow 2 weighs 50 + 2 x 10; flow 2's brings a second
+    -- packet, up((110 + 900) / 1000): 40 + 2 x 70; a flow's own is nowhere in its bound
+    ∷ example (line 1 2) (flow 1 1 4 5 8 100 100 60 ∷ flow 2 2 0 5 44 1000 1000 900 ∷ flow 3 3 1 4 36 2000 2000 777 ∷ []) (Bounded 10 1 ∷ Bounded 70 2 ∷ Bounded 180 3 ∷ [])
+    -- SB allows 80 - 50 and weighs 50
+    ∷ example (line 10 1) both-sides (Bounded 10 1 ∷ Bounded 20 1 ∷ Bounded 80 2 ∷ Bounded 130 3 ∷ [])
+    -- XLWX allows 10 and weighs 50 + 20
+    ∷ example (line 10 2) both-sides (Bounded 10 1 ∷ Bounded 20 1 ∷ Bounded 80 2 ∷ Bounded 170 3 ∷ [])
+    -- IBN allows 80 - 50 and weighs 50 + 10, since B is 10
+    ∷ example (line 10 3) both-sides (Bounded 10 1 ∷ Bounded 20 1 ∷ Bounded 80 2 ∷ Bounded 150 3 ∷ [])
+    -- flow 1 shares links with flow 2 and with flow 3: it delays flow 3 itself and is no part of flow 2's weight, 40 + 10 + 50
+    ∷ example (line 1 2) (flow 1 1 3 5 7 1000 1000 0 ∷ flow 2 2 0 5 44 1000 1000 0 ∷ flow 3 3 1 4 36 1000 1000 0 ∷ []) (Bounded 10 1 ∷ Bounded 60 2 ∷ Bounded 100 2 ∷ [])
+    -- a chain: flow 2 weighs 20 + 10 for flow 3, and is downstream of flow 3 for flow 4 with its C of 20, not with that weight: 40 + 30 + 20
+    ∷ example (mesh 8 1 1 0 1 2) (flow 1 1 5 7 7 100 100 0 ∷ flow 2 2 3 6 16 200 200 0 ∷ flow 3 3 0 4 25 1000 1000 0 ∷ flow 4 4 1 3 37 1000 1000 0 ∷ []) (Bounded 10 1 ∷ Bounded 30 2 ∷ Bounded 60 2 ∷ Bounded 90 2 ∷ [])
+    -- "a window of 400 with period 400 holds one packet, 401 two": C is 300 and 301, and flow 1 weighs 100
+    ∷ example (line 1 2) (flow 1 1 0 5 94 400 400 0 ∷ flow 2 2 1 4 296 2000 2000 0 ∷ []) (Bounded 100 1 ∷ Bounded 400 2 ∷ [])
+    ∷ example (line 1 2) (flow 1 1 0 5 94 400 400 0 ∷ flow 2 2 1 4 297 2000 2000 0 ∷ []) (Bounded 100 1 ∷ Bounded 501 3 ∷ [])
+    -- "This comes first, even if C exceeds the deadline": C is 50 and 40, the deadlines are 49 and 39
+    ∷ example (line 1 2) (flow 7 1 0 5 44 100 49 0 ∷ flow 9 2 1 4 36 100 39 0 ∷ []) (Late 0 ∷ Waits 7 ∷ [])
+    -- "It names the unbounded direct flow of highest priority": 30 of the flows 50, 30 and 70, which are direct for flow 90 and not bounded; of the flows above
+    -- it, 20 goes another way and 10 is bounded
+    ∷ example (line 1 0)
+    (flow 90 9 1 4 36 100 39 0 ∷ flow 50 5 3 4 5 100 100 0 ∷ flow 30 3 2 4 50 100 10 0 ∷ flow 70 7 3 4 5 100 100 0 ∷ flow 20 2 5 0 50 100 10 0 ∷ flow 10 1 1 2 1 100 100 0 ∷ [])
+    (Waits 30 ∷ Waits 30 ∷ Late 0 ∷ Waits 30 ∷ Late 0 ∷ Bounded 3 1 ∷ [])
+    ∷ []
+
+examples : map (λ e. map (λ a. a .verdict) (answers (e .platform) (e .flows))) table ≡ map (λ e. e .verdicts) table
+unfolding hops along xy on domain first-from up sumOver outcomeFrom outcome methodUsed _when_else_ latency directFor indirectFor comesBefore those allowance weight term terms highest judged judge verdictBelow verdict answers
+examples = refl

@@ -1,0 +1,34 @@
+-- Document 01, "The plan's bytes" and "Routes and shared links": the method really used, the unloaded latency, and what a bound is held against.
+use Prim.Native.Nat.{ℕ, _+_, _-_, _*_}
+use lib.Dec.{eqb}
+use lib.ListN.{length}
+use Rattle.framing.specs.First.{_when_else_}
+use Rattle.plan.specs.declared.Platform.{Platform}
+use Rattle.plan.specs.declared.Flow.{Flow}
+use Rattle.model.specs.Links.{routeOf}
+use Rattle.model.specs.declared.Method.{Method}
+use Rattle.model.specs.declared.Method.the-variants.{SB, XLWX, IBN}
+
+-- "0 asks for the house default, which is XLWX"
+abbrev pub houseDefault : Method
+houseDefault = XLWX
+
+-- "Method 1 is SB, 2 is XLWX, 3 is IBN .. ; 0 asks for the house default": the method really used.
+unfoldable pub methodUsed : Platform → Method
+methodUsed p =
+    SB when eqb (p .method) 1 else
+    XLWX when eqb (p .method) 2 else
+    IBN when eqb (p .method) 3 else
+    houseDefault
+
+-- The flits that the unloaded latency is worked out from.
+abbrev pub flitsSent : Platform → Flow → ℕ
+flitsSent p f = f .flits
+
+-- "Unloaded latency C = link cycles x (flits + length - 1) + routing cycles x (length - 1)."
+unfoldable pub latency : Platform → Flow → ℕ
+latency p f = p .link * (flitsSent p f + length (routeOf p f) - 1) + p .routing * (length (routeOf p f) - 1)
+
+-- "not above the deadline": what a flow's bound is held against.
+abbrev pub limit : Flow → ℕ
+limit f = f .deadline
