@@ -14,7 +14,7 @@ use Rattle.model.specs.Links.{pairOf}
 use Rattle.engine.specs.Pairs.{noPair, noRow, pairTable}
 use Rattle.engine.proofs.Tables.{any-default}
 
-filled-cell : {A : Type 0} (blank : A) (make : Flow → A) (fs : List Flow) (k : ℕ) → k < length fs → getD (padded blank (map make fs)) k blank ≡ make (flow fs k)
+pub filled-cell : {A : Type 0} (blank : A) (make : Flow → A) (fs : List Flow) (k : ℕ) → k < length fs → getD (padded blank (map make fs)) k blank ≡ make (flow fs k)
 filled-cell blank make fs k h =
     let n = length-map fs make in
     List·getD-append (map make fs) _ blank k (omega arith)

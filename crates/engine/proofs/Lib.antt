@@ -1,3 +1,15 @@
 mod Filling
 mod Tables
 pub mod Cells
+mod Sums
+mod Scenes
+mod Placing
+mod Costs
+mod Thirds
+mod Searching
+mod Methods
+mod Pairings
+mod Judging
+mod Gathering
+mod Solving
+mod Answering

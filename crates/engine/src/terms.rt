@@ -1,0 +1,75 @@
+// A direct flow's term in a recurrence, by the method really used.
+ghost use mathlib.Core.Path.{_≡_};
+ghost use Prim.Native.Nat.{_+_, _≤_};
+ghost use Rattle.model.specs.Latency.{houseDefault, methodUsed};
+ghost use Rattle.engine.specs.Loads.{capBy, lookedAt, allowanceBy, termBy};
+use crate::loads::Loads;
+use crate::numbers::wide8;
+use mesh::shared::Pair;
+use model::Method;
+use plan::Flow;
+use plan::Platform;
+use recurrence::Term;
+
+fn house_default() -> Method
+    ensures { λ r. ⌜ r ≡ houseDefault ⌝ }
+{
+    Method::XLWX
+}
+
+// The one place where a method's number has a meaning.
+pub fn method_used(p: Platform) -> Method
+    ensures { λ r. ⌜ r ≡ methodUsed p ⌝ }
+{
+    let method = p.method;
+    match method {
+        1 => Method::SB,
+        2 => Method::XLWX,
+        3 => Method::IBN,
+        _ => house_default(),
+    }
+}
+
+// What a hit of a downstream flow costs at most.
+pub(crate) fn cap_of(method: Method, p: Platform, ij: Pair) -> u32
+    ensures { λ r. ⌜ r ≡ capBy method p ij ⌝ }
+{
+    match method {
+        Method::SB => 0,
+        Method::XLWX => 4_294_967_295,
+        Method::IBN => wide8(p.buffer) * wide8(p.link) * wide8(ij.count),
+    }
+}
+
+// How many flows are looked at for a weight and an allowance.
+pub(crate) fn looked_at(method: Method, count: usize) -> usize
+    ensures { λ r. ⌜ (r ≡ lookedAt method count) × (r ≤ count) ⌝ }
+{
+    match method {
+        Method::SB => 0,
+        Method::XLWX => count,
+        Method::IBN => count,
+    }
+}
+
+fn allowance(method: Method, bound: u32, cost: u32, up: u32) -> u32
+    requires { ⌜ (cost ≤ bound) × (up ≤ bound) ⌝ }
+    ensures { λ r. ⌜ (r ≡ allowanceBy method bound cost up) × (r ≤ bound) ⌝ }
+{
+    match method {
+        Method::SB => bound - cost,
+        Method::XLWX => up,
+        Method::IBN => bound - cost,
+    }
+}
+
+pub(crate) fn term_of(method: Method, j: Flow, bound: u32, cost: u32, l: Loads) -> Term
+    requires { ⌜ (bound ≤ 1_000_000_000) × (j .jitter ≤ 1_000_000_000) × (l .up ≤ bound) × (cost + l .down ≤ bound) ⌝ }
+    ensures { λ r. ⌜ r ≡ termBy method j bound cost (l .up) (l .down) ⌝ }
+{
+    Term {
+        shift: j.jitter + allowance(method, bound, cost, l.up),
+        period: j.period,
+        weight: cost + l.down,
+    }
+}
