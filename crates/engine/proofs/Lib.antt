@@ -13,3 +13,4 @@ mod Judging
 mod Gathering
 mod Solving
 mod Answering
+pub mod Accepted

@@ -142,6 +142,15 @@ refusal-listed s number pl = go (readPlan s) (answered s)
 pub accepted-exactly : (s : List ℕ) (p : Platform) (fs : List Flow) → (readPlan s ≡ accepted p fs) ↔ (Laid s p fs × Legal p fs)
 accepted-exactly s p fs = (accepted-laid s p fs, λ (laid, legal). laid-accepted s p fs laid legal)
 
+-- a reading whose outcome is acceptance holds a plan
+pub accepted-plan : (s : List ℕ) → readPlan s .outcome ≡ Accepted → (p : Platform) × (fs : List Flow) × (readPlan s ≡ accepted p fs)
+unfolding refused
+accepted-plan s = go (readPlan s) (answered s)
+  where
+    go : (r : Reading) → Answer s r → r .outcome ≡ Accepted → (p : Platform) × (fs : List Flow) × (r ≡ accepted p fs)
+    go r (accepts p fs laid legal) e = (p, fs, refl)
+    go r (refuses number pl n h) e = let z : _≡_ {A = ℕ} 0 1 = cc in absurd (omega arith)
+
 -- what acceptance gives
 pub legal : (s : List ℕ) (p : Platform) (fs : List Flow) → readPlan s ≡ accepted p fs → Legal p fs
 legal s p fs e = accepted-laid s p fs e .1

@@ -1,11 +1,16 @@
-// Reads the plans of data/plans one after the other and prints a line for each: the outcome's number and place, and what
-// an accepted plan holds. A plan stands there behind its length in two bytes.
+// Reads the plans of data/plans one after the other and prints a line for each: the outcome's number and place, what an
+// accepted plan holds, and the answers to its flows. A plan stands there behind its length in two bytes.
+use engine::Answers;
+use engine::analyse_plan;
 use framing::numbers::two_at;
 use libc::STDOUT_FILENO;
+use model::Answer;
+use model::Verdict;
 use plan::Flow;
 use plan::Flows;
+use plan::Outcome;
+use plan::Plan;
 use plan::Platform;
-use plan::Reading;
 
 fn put(n: u64) {
     io::print_decimal(STDOUT_FILENO, n);
@@ -42,14 +47,50 @@ fn put_flows(flows: Flows, count: usize) {
     }
 }
 
-fn put_reading(reading: Reading) {
-    let outcome = reading.outcome;
-    let plan = reading.plan;
+// The verdict's number, the named flow, the bound and the rounds.
+fn put_answer(a: Answer) {
+    put(a.id as u64);
+    let v = a.verdict;
+    match v {
+        Verdict::Bounded(bound, rounds) => put_four(0, 65535, bound, rounds),
+        Verdict::Late(rounds) => put_four(1, 65535, 0, rounds),
+        Verdict::Waits(id) => put_four(2, id, 0, 0),
+    }
+}
+
+fn put_four(verdict: u8, named: u16, bound: u32, rounds: u32) {
+    put(verdict as u64);
+    put(named as u64);
+    put(bound as u64);
+    put(rounds as u64);
+}
+
+fn put_answers(list: Answers, count: usize) {
+    let mut i: usize = 0;
+    while i < 64 {
+        if i < count {
+            put_answer(list[i]);
+        }
+        i += 1;
+    }
+}
+
+fn put_plan(plan: Plan) {
     let flows = plan.flows;
-    put(outcome.number() as u64);
-    put(outcome.place() as u64);
     put_platform(plan.platform);
     put_flows(flows, plan.count);
+}
+
+fn put_case(bytes: &[u8]) {
+    let reading = plan::read(bytes);
+    let outcome = reading.outcome;
+    let plan = reading.plan;
+    put(outcome.number() as u64);
+    put(outcome.place() as u64);
+    put_plan(plan);
+    if let Outcome::Accepted = outcome {
+        put_answers(analyse_plan(plan), plan.count);
+    }
     io::write_all(STDOUT_FILENO, b"\n");
 }
 
@@ -63,7 +104,7 @@ fn fill(file: i32, into: &mut [u8], n: usize) -> bool {
 
 fn put_first(bytes: &[u8], n: usize) {
     if n <= bytes.len() {
-        put_reading(plan::read(&bytes[..n]));
+        put_case(&bytes[..n]);
     }
 }
 

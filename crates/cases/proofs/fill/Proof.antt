@@ -1,9 +1,9 @@
--- `plan_cases::fill` is safe and ends: the part that is lent is as long as it is said to be.
+-- `cases::fill` is safe and ends: the part that is lent is as long as it is said to be.
 use mathlib.Core.Path.{sym}
 use lib.Seq.{length-take-le}
 use borrow.Author.Needs.{needs}
-use Rattle.plan_cases.proofs.fill.Statement.{statement}
-use Rattle.plan_cases.proofs.fill.Tie as tie
+use Rattle.cases.proofs.fill.Statement.{statement}
+use Rattle.cases.proofs.fill.Tie as tie
 
 returns : tie.Need-returns
 returns c = search needs

@@ -1,8 +1,8 @@
--- `plan_cases::main` is safe and ends: there is a last turn.
+-- `cases::main` is safe and ends: there is a last turn.
 use Prim.Native.Nat.{_≤_}
 use borrow.Author.Needs.{needs}
-use Rattle.plan_cases.proofs.main.Statement.{statement}
-use Rattle.plan_cases.proofs.main.Tie as tie
+use Rattle.cases.proofs.main.Statement.{statement}
+use Rattle.cases.proofs.main.Tie as tie
 
 abbrev Inv-loop : tie.InvT-loop
 Inv-loop file left₀ left = left ≤ 10000

@@ -1,10 +1,10 @@
--- `plan_cases::put_flows` is safe and ends.
+-- `cases::put_flows` is safe and ends.
 use Prim.Native.Nat.{_-_, _≤_}
 use mathlib.Core.Path.{_≡_}
 use lib.ListN.{length}
 use borrow.Author.Needs.{needs}
-use Rattle.plan_cases.proofs.put_flows.Statement.{statement}
-use Rattle.plan_cases.proofs.put_flows.Tie as tie
+use Rattle.cases.proofs.put_flows.Statement.{statement}
+use Rattle.cases.proofs.put_flows.Tie as tie
 
 abbrev Inv-loop : tie.InvT-loop
 Inv-loop count flows i₀ i = (i ≤ 64) × (length flows ≡ 64)

@@ -1,0 +1,378 @@
+#!/usr/bin/env python3
+"""The plans that crates/cases reads, and what it must print of each: the outcome, the plan's values, the answers.
+
+Written from document 01 alone and not from the Rattle code, with other ways where there are any: routes are lists of node
+pairs, a side is told by all places and not by the first, and a bound is searched for number by number where that is short.
+
+    tests/cases.py            compares crates/cases/data/plans and crates/cases/stdout with what it works out
+    tests/cases.py --write    writes the two files
+"""
+import random
+import struct
+import sys
+from pathlib import Path
+
+ROOT = Path(__file__).resolve().parent.parent / "crates" / "cases"
+SEED = 20261115
+BILLION = 1_000_000_000
+
+
+def u(width, value):
+    return value.to_bytes(width, "big")
+
+
+# ---- a reader of its own: it splits the bytes into records first and looks at each by a list of rules
+
+PLATFORM, FLOW, END = 0x01, 0x02, 0x7F
+LENGTHS = {PLATFORM: 6, FLOW: 20, END: 0}
+FLOW_LAYOUT = ">HHBBHIII"
+
+
+class Refusal(Exception):
+    pass
+
+
+def need(fine, number, place):
+    if not fine:
+        raise Refusal(number, place)
+
+
+def header(data, at, first, flows):
+    need(len(data) - at >= 3, 1, at)
+    tag = data[at]
+    need(tag in LENGTHS, 2, at)
+    need((tag == PLATFORM) == first, 4, at)
+    size = int.from_bytes(data[at + 1:at + 3], "big")
+    need(size == LENGTHS[tag], 3, at + 1)
+    need(at + 3 + size <= len(data), 1, at)
+    need(not (tag == FLOW and flows == 64), 6, at)
+    return tag, data[at + 3:at + 3 + size]
+
+
+def platform_of(body, at):
+    limits = [(1, 8), (1, 8), (1, 16), (0, 16), (1, 64), (0, 3)]
+    for k, (low, high) in enumerate(limits):
+        need(low <= body[k] <= high, 5, at + 3 + k)
+    return list(body)
+
+
+def flow_of(body, at, platform, flows):
+    values = struct.unpack(FLOW_LAYOUT, body)
+    ident, priority, source, destination, flits, period, deadline, jitter = values
+    nodes = platform[0] * platform[1]
+    need(ident <= 65534, 5, at + 3)
+    need(priority >= 1, 5, at + 5)
+    need(source < nodes, 5, at + 7)
+    need(destination < nodes, 5, at + 8)
+    need(flits >= 1, 5, at + 9)
+    need(1 <= period <= BILLION, 5, at + 11)
+    need(1 <= deadline <= period, 5, at + 15)
+    need(jitter <= BILLION, 5, at + 19)
+    need(source != destination, 9, at + 8)
+    need(ident not in [f[0] for f in flows], 7, at + 3)
+    need(priority not in [f[1] for f in flows], 8, at + 5)
+    return list(values)
+
+
+def read(data):
+    at, platform, flows = 0, None, []
+    while True:
+        tag, body = header(data, at, at == 0, len(flows))
+        if tag == PLATFORM:
+            platform = platform_of(body, at)
+        elif tag == FLOW:
+            flows.append(flow_of(body, at, platform, flows))
+        else:
+            need(len(data) == at + 3, 10, at + 3)
+            return platform, flows
+        at += 3 + len(body)
+
+
+# ---- an analysis of its own
+
+def route(columns, source, destination):
+    row, column = divmod(source, columns)
+    last_row, last_column = divmod(destination, columns)
+    nodes = [(row, column)]
+    while column != last_column:
+        column += 1 if column < last_column else -1
+        nodes.append((row, column))
+    while row != last_row:
+        row += 1 if row < last_row else -1
+        nodes.append((row, column))
+    return [("in", nodes[0])] + list(zip(nodes, nodes[1:])) + [("out", nodes[-1])]
+
+
+def up(a, b):
+    return -(-a // b)
+
+
+class Analysis:
+    def __init__(self, platform, flows):
+        self.columns, self.rows, self.link, self.routing, self.buffer, method = platform
+        self.method = 2 if method == 0 else method
+        self.flows = {f[0]: f for f in flows}
+        self.routes = {f[0]: route(self.columns, f[2], f[3]) for f in flows}
+        self.answers = {}
+        for ident in sorted(self.flows, key=lambda i: self.flows[i][1]):
+            self.answers[ident] = self.answer(ident)
+
+    def shared(self, a, b):
+        return [link for link in self.routes[a] if link in self.routes[b]]
+
+    def direct(self, i):
+        return [j for j in self.flows if self.flows[j][1] < self.flows[i][1] and self.shared(i, j)]
+
+    def latency(self, i):
+        length = len(self.routes[i])
+        return self.link * (self.flows[i][4] + length - 1) + self.routing * (length - 1)
+
+    def sides(self, i, j):
+        """The flows that are direct for j and not for i: upstream and downstream for (i, j)."""
+        upstream, downstream = [], []
+        mine = [self.routes[j].index(link) for link in self.shared(j, i)]
+        for k in set(self.direct(j)) - set(self.direct(i)):
+            theirs = [self.routes[j].index(link) for link in self.shared(j, k)]
+            if max(theirs) < min(mine):
+                upstream.append(k)
+            else:
+                assert max(mine) < min(theirs)
+                downstream.append(k)
+        return upstream, downstream
+
+    def term(self, i, j):
+        """Jitter and allowance, period and weight of j in the recurrence of i."""
+        bound, flow = self.answers[j][2], self.flows[j]
+        upstream, downstream = self.sides(i, j)
+
+        def hits(k):
+            return up(bound + self.flows[k][7], self.flows[k][5])
+
+        held = self.buffer * self.link * len(self.shared(i, j))
+        if self.method == 1:
+            allowance, weight = bound - self.latency(j), self.latency(j)
+        elif self.method == 2:
+            allowance = sum(hits(k) * self.latency(k) for k in upstream)
+            weight = self.latency(j) + sum(hits(k) * self.latency(k) for k in downstream)
+        else:
+            allowance = bound - self.latency(j)
+            weight = self.latency(j) + sum(hits(k) * min(self.latency(k), held) for k in downstream)
+        assert weight <= bound <= flow[5] and allowance <= bound
+        return flow[7] + allowance, flow[5], weight
+
+    def answer(self, i):
+        """Verdict, named flow, bound, rounds."""
+        stuck = [j for j in self.direct(i) if self.answers[j][0] != 0]
+        if stuck:
+            return 2, min(stuck, key=lambda j: self.flows[j][1]), 0, 0
+        terms = [self.term(i, j) for j in self.direct(i)]
+        latency, deadline = self.latency(i), self.flows[i][6]
+
+        def right_side(x):
+            return latency + sum(up(x + shift, period) * weight for shift, period, weight in terms)
+
+        rounds, x, bound = 0, latency, None
+        while x <= deadline and bound is None:
+            rounds, new = rounds + 1, right_side(x)
+            if new == x:
+                bound = x
+            x = new
+        if deadline <= 3000:
+            assert bound == next((y for y in range(deadline + 1) if right_side(y) == y), None)
+        return (1, 65535, 0, rounds) if bound is None else (0, 65535, bound, rounds)
+
+
+def line(data):
+    try:
+        platform, flows = read(data)
+        numbers = [0, 0] + platform + [v for f in flows for v in f]
+        answers = Analysis(platform, flows).answers
+        numbers += [v for f in flows for v in (f[0], *answers[f[0]])]
+    except Refusal as refusal:
+        numbers = list(refusal.args) + [0] * 6
+    return "".join(f"{n} " for n in numbers) + "\n"
+
+
+# ---- the plans
+
+def record(tag, body):
+    return u(1, tag) + u(2, len(body)) + body
+
+
+def platform(columns=6, rows=1, link=1, routing=0, buffer=10, method=3):
+    return record(PLATFORM, bytes([columns, rows, link, routing, buffer, method]))
+
+
+def flow(ident, priority, source, destination, flits=1, period=9, deadline=9, jitter=0):
+    return record(FLOW, struct.pack(FLOW_LAYOUT, ident, priority, source, destination, flits, period, deadline, jitter))
+
+
+END_RECORD = record(END, b"")
+P = platform() + flow(2, 1, 4, 5, 60, 200, 200) + flow(3, 2, 0, 5, 198, 4000, 4000) + flow(5, 3, 1, 4, 128, 6000, 6000) + END_RECORD
+P_STARTS = [0, 9, 32, 55, 78]
+
+
+def many(n, last=None):
+    flows = [flow(k, k + 1, k % 6, (k + 1) % 6) for k in range(n)]
+    if last is not None:
+        flows[-1] = last
+    return platform() + b"".join(flows) + END_RECORD
+
+
+def changed(data, *changes):
+    data = bytearray(data)
+    for at, new in changes:
+        data[at:at + len(new)] = new
+    return bytes(data)
+
+
+def framing_cases():
+    yield P
+    yield platform() + END_RECORD
+    for n in range(len(P)):
+        yield P[:n]
+    for at in P_STARTS:
+        for tag in (0x00, 0x03, 0x7E, 0x80, 0xFF):
+            yield changed(P, (at, u(1, tag)))
+        for size in (1, 5, 7, 19, 21, 256, 65535):
+            yield changed(P, (at + 1, u(2, size)))
+        yield P[at:]
+        yield P[:at] + P
+    for tail in (b"\0", b"\x7f", END_RECORD, P, b"\0" * 300):
+        yield P + tail
+        yield platform() + END_RECORD + tail
+    for n in (1, 63, 64, 65, 66):
+        yield many(n)
+    yield many(64)[:-1]
+    yield many(64) + b"\0"
+    yield many(65)[:1481 + 22]
+    yield many(65, flow(2, 99, 0, 1))
+    yield many(65, flow(200, 1, 9, 9, 0, 0, 0))
+
+
+def field_cases():
+    platform_fields = [(3, 1, 8), (4, 1, 8), (5, 1, 16), (6, 0, 16), (7, 1, 64), (8, 0, 3)]
+    for at, low, high in platform_fields:
+        for value in {max(low - 1, 0), low, high, high + 1, 255}:
+            yield changed(P, (at, u(1, value)))
+    for start in P_STARTS[1:4]:
+        for offset, width, values in [
+            (3, 2, (0, 7, 65534, 65535)), (5, 2, (0, 7, 65535)), (7, 1, (0, 2, 5, 6, 255)), (8, 1, (0, 2, 5, 6, 255)),
+            (9, 2, (0, 1, 65535)), (11, 4, (0, 1, 199, BILLION, BILLION + 1, 2**32 - 1)),
+            (15, 4, (0, 1, 200, 201, 4000, 4001, 6001, 2**32 - 1)), (19, 4, (0, BILLION, BILLION + 1, 2**32 - 1)),
+        ]:
+            for value in values:
+                yield changed(P, (start + offset, u(width, value)))
+
+
+def clash_cases():
+    for later in (32, 55):
+        for earlier in P_STARTS[1:P_STARTS.index(later)]:
+            ident, priority = P[earlier + 3:earlier + 5], P[earlier + 5:earlier + 7]
+            yield changed(P, (later + 3, ident))
+            yield changed(P, (later + 5, priority))
+            yield changed(P, (later + 3, ident), (later + 5, priority))
+            yield changed(P, (later + 3, ident), (later + 8, P[later + 7:later + 8]))
+            yield changed(P, (later + 5, priority), (later + 19, b"\xff"))
+            yield changed(P, (later + 3, ident), (later, b"\x05"))
+            yield changed(P, (later + 3, ident), (later + 1, b"\x05"))
+            yield changed(P, (later + 3, ident))[:later + 20]
+            yield changed(P, (later + 3, ident), (7, b"\x41"))
+
+
+# ---- published figures
+
+def answers_of(data):
+    return {ident: answer for ident, answer in Analysis(*read(data)).answers.items()}
+
+
+def figures():
+    """Document 01's "Figures to meet": the change to P, the flow, its verdict, named flow, bound and rounds."""
+    none = 65535
+    slow = [(32 + 11, u(4, 400)), (32 + 15, u(4, 400))]
+    yield [(8, b"\1")], 5, (0, none, 336, 2)
+    yield [(8, b"\2")], 5, (0, none, 460, 2)
+    yield [(8, b"\0")], 5, (0, none, 460, 2)
+    yield [], 2, (0, none, 62, 1)
+    yield [], 3, (0, none, 328, 2)
+    yield [], 5, (0, none, 396, 2)
+    yield [(7, b"\2")], 5, (0, none, 348, 2)
+    yield [(32 + 15, u(4, 328))], 3, (0, none, 328, 2)
+    yield [(32 + 15, u(4, 327))], 3, (1, none, 0, 1)
+    yield [(32 + 15, u(4, 327))], 5, (2, 3, 0, 0)
+    yield [(8, b"\1"), *slow], 5, (0, none, 540, 3)
+    yield [(8, b"\2"), *slow], 5, (0, none, 788, 3)
+    yield [(8, b"\3"), *slow], 5, (0, none, 660, 3)
+    yield [(8, b"\1"), (55 + 15, u(4, 335))], 5, (1, none, 0, 1)
+    yield [(55 + 15, u(4, 131))], 5, (1, none, 0, 0)
+    for method in range(4):
+        yield [(8, bytes([method])), (9 + 7, b"\0\1")], 5, (0, none, 336, 2)
+
+
+def paper_tables():
+    """Tables II and IV of source document 002, on a line; the last flow's deadline is raised so that its bound is within it."""
+    first = [flow(6, 1, 0, 1, 12, 1000, 1000), flow(7, 2, 1, 2, 50, 208, 208), flow(8, 3, 0, 2, 100, 257, 257), flow(9, 4, 1, 2, 50, 1000, 1000)]
+    for method, bounds in [(1, (14, 52, 169, 362)), (2, (14, 52, 169, 207)), (3, (14, 52, 169, 362))]:
+        yield platform(columns=3, method=method) + b"".join(first) + END_RECORD, bounds
+    second = [flow(1, 1, 0, 2, 27, 150, 100), flow(2, 2, 5, 6, 28, 150, 100), flow(3, 3, 1, 6, 144, 400, 300), flow(4, 4, 5, 6, 98, 600, 550), flow(5, 5, 2, 5, 96, 600, 600)]
+    for method, buffer, bounds in [(1, 10, (30, 30, 270, 520, 250)), (2, 10, (30, 30, 270, 340, 310)), (3, 10, (30, 30, 270, 520, 520)), (3, 2, (30, 30, 270, 520, 262))]:
+        yield platform(columns=7, buffer=buffer, method=method) + b"".join(second) + END_RECORD, bounds
+
+
+def published_cases():
+    for changes, ident, expected in figures():
+        data = changed(P, *changes)
+        assert answers_of(data)[ident] == expected, (changes, ident, answers_of(data)[ident])
+        yield data
+    for data, bounds in paper_tables():
+        assert tuple(answer[2] for answer in answers_of(data).values()) == bounds, (answers_of(data), bounds)
+        yield data
+
+
+def busy_cases():
+    """Random plans whose flows meet often: a small mesh, short periods, some jitter."""
+    chance = random.Random(SEED + 1)
+    for _ in range(300):
+        columns, rows = chance.choice(((4, 1), (3, 3), (2, 4), (4, 4), (8, 8)))
+        flows, count = [], chance.randint(2, 12)
+        priorities = chance.sample(range(1, 40), count)
+        for k in range(count):
+            ends = chance.sample(range(columns * rows), 2)
+            period = chance.randint(50, 3000)
+            flows.append(flow(k, priorities[k], ends[0], ends[1], chance.randint(1, 40), period, chance.randint(period // 2, period), chance.choice((0, 0, chance.randint(0, 2000)))))
+        yield platform(columns, rows, chance.randint(1, 4), chance.randint(0, 3), chance.randint(1, 12), chance.randint(0, 3)) + b"".join(flows) + END_RECORD
+
+
+def random_cases():
+    chance = random.Random(SEED)
+    for _ in range(400):
+        columns, rows = chance.randint(1, 8), chance.randint(1, 8)
+        nodes = max(columns * rows, 2)
+        flows = []
+        for k in range(chance.randint(0, 9)):
+            ends = chance.sample(range(nodes), 2)
+            period = chance.randint(1, BILLION)
+            flows.append(flow(10 * k + chance.randint(0, 11), 5 * k + chance.randint(1, 6), ends[0], ends[1], chance.randint(1, 65535), period, chance.randint(1, period), chance.randint(0, BILLION)))
+        data = platform(columns, rows, chance.randint(1, 16), chance.randint(0, 16), chance.randint(1, 64), chance.randint(0, 3)) + b"".join(flows) + END_RECORD
+        for _ in range(chance.randint(0, 2)):
+            data = changed(data, (chance.randrange(len(data)), bytes([chance.choice((0, 1, 2, 0x7F, 0xFF, chance.randrange(256)))])))
+        yield data
+
+
+def main():
+    plans = [*framing_cases(), *field_cases(), *clash_cases(), *published_cases(), *busy_cases(), *random_cases()]
+    lines = [line(data) for data in plans]
+    seen = {text.split()[0] for text in lines}
+    missing = {str(n) for n in range(11)} - seen
+    if missing:
+        sys.exit(f"cases: no plan for outcome {sorted(missing)}")
+    files = {ROOT / "data" / "plans": b"".join(u(2, len(data)) + data for data in plans), ROOT / "stdout": "".join(lines).encode()}
+    for path, content in files.items():
+        if "--write" in sys.argv:
+            path.write_bytes(content)
+        elif not path.exists() or path.read_bytes() != content:
+            sys.exit(f"cases: {path} is not what document 01 gives")
+    print(f"cases: {len(plans)} plans, seed {SEED}")
+
+
+main()
