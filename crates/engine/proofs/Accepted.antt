@@ -13,7 +13,7 @@ use Rattle.plan.specs.Values.{blankFlow}
 use Rattle.plan.specs.Reading.{accepted, readPlan}
 use Rattle.plan.proofs.Padding.{length-padded}
 use Rattle.plan.proofs.Exact.{accepted-plan, legal}
-use Rattle.engine.specs.Scene.{Scene}
+use Rattle.pairs.specs.Scene.{Scene}
 
 pub plan-flows : (fs : List Flow) → take (length fs) (padded blankFlow fs) ≡ fs
 plan-flows fs = take-at fs _ (length fs) refl

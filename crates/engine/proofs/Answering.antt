@@ -23,14 +23,14 @@ use Rattle.model.specs.Rules.{Says}
 use Rattle.model.proofs.Judged.{same-place}
 use Rattle.model.proofs.Verdicts.{verdict-says}
 use Rattle.model.proofs.Fits.{limit-period}
-use Rattle.engine.specs.Pairs.{noPair, pairTable}
-use Rattle.engine.specs.Scene.{Scene, RowOf}
+use Rattle.pairs.specs.Pairs.{noPair, pairTable}
+use Rattle.pairs.specs.Scene.{Scene, RowOf}
 use Rattle.engine.specs.Filled.{Filled}
 use Rattle.engine.specs.Loads.{hitsBy}
 use Rattle.engine.specs.Search.{Highest}
 use Rattle.engine.specs.Answers.{blankAnswer, answerArray}
 use Rattle.engine.specs.Working.{hitsOn, Known, Working}
-use Rattle.engine.proofs.Cells.{filled-cell}
+use Rattle.pairs.proofs.Cells.{filled-cell}
 use Rattle.engine.proofs.Scenes.{scene-long, scene-at, scene-flow}
 use Rattle.engine.proofs.Placing.{set-cell}
 

@@ -24,8 +24,8 @@ use Rattle.model.specs.Rules.{Unbounded, AllBounded}
 use Rattle.model.proofs.Judged.{and-left, and-right, and-both, not-flip, direct-above, says-settled, says-once}
 use Rattle.model.proofs.Verdicts.{verdict-says}
 use Rattle.model.proofs.Fits.{latency-small, limit-period, bound-said, bound-within, either, terms-fair}
-use Rattle.engine.specs.Pairs.{noPair}
-use Rattle.engine.specs.Scene.{RowOf}
+use Rattle.pairs.specs.Pairs.{noPair}
+use Rattle.pairs.specs.Scene.{RowOf}
 use Rattle.engine.specs.Loads.{directBy}
 use Rattle.engine.specs.Search.{Highest}
 use Rattle.engine.specs.Answers.{blankAnswer}

@@ -1,6 +1,3 @@
-mod Filling
-mod Tables
-pub mod Cells
 mod Sums
 mod Scenes
 mod Placing

@@ -20,7 +20,7 @@ use Rattle.model.specs.declared.Method.{Method}
 use Rattle.model.specs.declared.Method.the-variants.{SB, XLWX, IBN}
 use Rattle.model.proofs.Sides.{indirect-by-count}
 use Rattle.model.proofs.Fits.{latency-small, latency-within, upstream-within, downstream-within}
-use Rattle.engine.specs.Scene.{Scene, RowOf}
+use Rattle.pairs.specs.Scene.{Scene, RowOf}
 use Rattle.engine.specs.Filled.{Filled}
 use Rattle.engine.specs.Loads.{directBy, hitsBy, sumTo, upPart, downPart, upLoad, downLoad, capBy, lookedAt, termBy}
 use Rattle.engine.proofs.Scenes.{scene-long, scene-at, scene-flow}

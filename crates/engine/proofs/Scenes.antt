@@ -14,10 +14,10 @@ use Rattle.plan.proofs.Padding.{length-padded}
 use Rattle.mesh.specs.declared.shared.Pair.{Pair}
 use Rattle.model.specs.Links.{routeOf, pairOf}
 use Rattle.model.proofs.Links.{with-itself}
-use Rattle.engine.specs.Pairs.{noPair, noRow, pairTable}
-use Rattle.engine.specs.Scene.{Scene, RowOf}
-use Rattle.engine.proofs.Tables.{any-default}
-use Rattle.engine.proofs.Cells.{filled-cell}
+use Rattle.pairs.specs.Pairs.{noPair, noRow, pairTable}
+use Rattle.pairs.specs.Scene.{Scene, RowOf}
+use Rattle.pairs.proofs.Tables.{any-default}
+use Rattle.pairs.proofs.Cells.{filled-cell}
 
 -- what an array of flows is read as where it has no cell
 abbrev pub zeros : Flow

@@ -23,8 +23,8 @@ use Rattle.model.specs.Interference.{directFor}
 use Rattle.model.specs.Delays.{term, terms}
 use Rattle.model.specs.Verdicts.{boundIn, settledVerdict, verdict}
 use Rattle.model.specs.Rules.{AllBounded}
-use Rattle.engine.specs.Pairs.{noPair}
-use Rattle.engine.specs.Scene.{RowOf}
+use Rattle.pairs.specs.Pairs.{noPair}
+use Rattle.pairs.specs.Scene.{RowOf}
 use Rattle.engine.specs.Loads.{directBy, sumTo, upLoad, downLoad, capBy, lookedAt, termBy}
 use Rattle.engine.specs.Answers.{blankAnswer}
 use Rattle.engine.specs.Working.{Working}

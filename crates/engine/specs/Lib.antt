@@ -1,5 +1,3 @@
-pub mod Pairs
-pub mod Scene
 pub mod Filled
 pub mod Loads
 pub mod Search

@@ -11,7 +11,7 @@ use Rattle.recurrence.specs.declared.Term.{Term}
 use Rattle.model.specs.Delays.{hits}
 use Rattle.model.specs.declared.Method.{Method}
 use Rattle.model.specs.declared.Method.the-variants.{SB, XLWX, IBN}
-use Rattle.engine.specs.Pairs.{noPair}
+use Rattle.pairs.specs.Pairs.{noPair}
 
 -- "j has higher priority and they share a link", by their cell of the pair table.
 abbrev pub directBy : Flow → Flow → Pair → Bool

@@ -11,8 +11,8 @@ use Rattle.model.specs.declared.Answer.{Answer}
 use Rattle.model.specs.Links.{pairOf}
 use Rattle.model.specs.Latency.{latency}
 use Rattle.model.specs.Verdicts.{boundIn, verdict, answerTo}
-use Rattle.engine.specs.Pairs.{pairTable}
-use Rattle.engine.specs.Scene.{Scene}
+use Rattle.pairs.specs.Pairs.{pairTable}
+use Rattle.pairs.specs.Scene.{Scene}
 use Rattle.engine.specs.Filled.{Filled}
 use Rattle.engine.specs.Loads.{hitsBy}
 use Rattle.engine.specs.Answers.{blankAnswer}

@@ -1,16 +1,16 @@
 // From a plan to its answers.
 ghost use mathlib.Core.Path.{_≡_};
 ghost use lib.ListN.{take};
-ghost use Rattle.engine.specs.Scene.{Scene};
+ghost use Rattle.pairs.specs.Scene.{Scene};
 ghost use Rattle.engine.specs.Answers.{blankAnswer, answerArray};
 use crate::hits::hit_row;
 use crate::judge::bound_of;
 use crate::judge::judge;
 use crate::latencies::latencies;
-use crate::pairs::pair_table;
 use crate::search::next_flow;
 use model::Answer;
 use model::Verdict;
+use pairs::pair_table;
 use plan::Plan;
 
 mod hits;
@@ -18,7 +18,6 @@ mod judge;
 mod latencies;
 mod loads;
 mod numbers;
-pub mod pairs;
 mod search;
 pub mod terms;
 

@@ -5,8 +5,8 @@ ghost use Rattle.engine.specs.Loads.{upPart, downPart, sumTo, upLoad, do
 use crate::hits::Hits;
 use crate::latencies::Latencies;
 use crate::numbers::lesser;
-use crate::pairs::PairRow;
 use mesh::shared::Pair;
+use pairs::PairRow;
 
 // The hits of the upstream flows at their latencies, and of the downstream flows at no more than the cap.
 pub struct Loads {

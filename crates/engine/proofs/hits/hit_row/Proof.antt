@@ -5,7 +5,7 @@ use mathlib.Core.Path.{ap, _∙_}
 use lib.ListN.{getD}
 use Rattle.plan.specs.declared.Flow.{Flow}
 use Rattle.plan.specs.Legal.{flow}
-use Rattle.engine.specs.Pairs.{noPair}
+use Rattle.pairs.specs.Pairs.{noPair}
 use Rattle.engine.specs.Loads.{hitsBy}
 use Rattle.engine.proofs.Scenes.{scene-read, scene-legal}
 use Rattle.engine.proofs.Placing.{Placing, placing-none, placing-more, placing-all}

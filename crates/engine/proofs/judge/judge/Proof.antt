@@ -8,7 +8,7 @@ use Rattle.model.specs.declared.Verdict.the-variants.{Waits}
 use Rattle.model.specs.Latency.{limit}
 use Rattle.engine.proofs.Judging.{waits, free}
 use Rattle.engine.proofs.Solving.{Solving, solving-none, direct-told, solving-skip, loads-asked, term-asked, solving-more, settle-given, solved}
-use Rattle.engine.proofs.Tables.{any-default}
+use Rattle.pairs.proofs.Tables.{any-default}
 use Rattle.model.specs.declared.Answer.{Answer}
 use Rattle.model.specs.Verdicts.{boundIn}
 use Rattle.engine.specs.Answers.{blankAnswer}

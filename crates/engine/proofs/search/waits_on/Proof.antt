@@ -9,10 +9,10 @@ use Rattle.plan.specs.declared.Flow.{Flow}
 use Rattle.plan.specs.Legal.{flow}
 use Rattle.model.specs.declared.Answer.{Answer}
 use Rattle.model.specs.Verdicts.{isBounded}
-use Rattle.engine.specs.Pairs.{noPair}
+use Rattle.pairs.specs.Pairs.{noPair}
 use Rattle.engine.specs.Loads.{directBy}
 use Rattle.engine.specs.Answers.{blankAnswer}
-use Rattle.engine.proofs.Tables.{any-default}
+use Rattle.pairs.proofs.Tables.{any-default}
 use Rattle.engine.proofs.Scenes.{scene-read}
 use Rattle.engine.proofs.Searching.{Searching, searching-none, searching-new, searching-old, better-read, searching-all}
 use borrow.Author.Needs.{needs}

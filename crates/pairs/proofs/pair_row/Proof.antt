@@ -1,13 +1,13 @@
--- `engine::pairs::pair_row` meets its contract.
+-- `pairs::pair_row` meets its contract.
 use Prim.Native.Nat.{_-_}
 use mathlib.Core.Path.{ap}
 use lib.ListN.{replicate}
-use Rattle.engine.specs.Pairs.{noPair, comparedWith}
-use Rattle.engine.proofs.Filling.{Filling, filling-none, filling-more, filling-all}
-use Rattle.engine.proofs.Tables.{compared-is}
+use Rattle.pairs.specs.Pairs.{noPair, comparedWith}
+use Rattle.pairs.proofs.Filling.{Filling, filling-none, filling-more, filling-all}
+use Rattle.pairs.proofs.Tables.{compared-is}
 use borrow.Author.Needs.{needs}
-use Rattle.engine.proofs.pairs.pair_row.Statement.{statement}
-use Rattle.engine.proofs.pairs.pair_row.Tie as tie
+use Rattle.pairs.proofs.pair_row.Statement.{statement}
+use Rattle.pairs.proofs.pair_row.Tie as tie
 
 abbrev Inv-loop : tie.InvT-loop
 Inv-loop own count routes row₀ j₀ row j = Filling noPair (comparedWith own) routes count row j

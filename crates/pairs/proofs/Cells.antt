@@ -11,8 +11,8 @@ use Rattle.plan.specs.Values.{blankFlow}
 use Rattle.plan.specs.Legal.{flow}
 use Rattle.mesh.specs.declared.shared.Pair.{Pair}
 use Rattle.model.specs.Links.{pairOf}
-use Rattle.engine.specs.Pairs.{noPair, noRow, pairTable}
-use Rattle.engine.proofs.Tables.{any-default}
+use Rattle.pairs.specs.Pairs.{noPair, noRow, pairTable}
+use Rattle.pairs.proofs.Tables.{any-default}
 
 pub filled-cell : {A : Type 0} (blank : A) (make : Flow → A) (fs : List Flow) (k : ℕ) → k < length fs → getD (padded blank (map make fs)) k blank ≡ make (flow fs k)
 filled-cell blank make fs k h =

@@ -1,15 +1,15 @@
--- `engine::pairs::list_routes` meets its contract.
+-- `pairs::list_routes` meets its contract.
 use Prim.Native.Nat.{_-_}
 use mathlib.Core.Path.{ap}
 use mathlib.Core.List.{[]}
 use lib.ListN.{replicate}
-use Rattle.engine.specs.Pairs.{listed, listedOf}
-use Rattle.engine.proofs.Filling.{Filling, filling-none, filling-room, filling-more, filling-all}
-use Rattle.engine.proofs.Tables.{listed-is, flow-ends}
+use Rattle.pairs.specs.Pairs.{listed, listedOf}
+use Rattle.pairs.proofs.Filling.{Filling, filling-none, filling-room, filling-more, filling-all}
+use Rattle.pairs.proofs.Tables.{listed-is, flow-ends}
 use native.Mathlib.Omega.{arith}
 use borrow.Author.Needs.{needs}
-use Rattle.engine.proofs.pairs.list_routes.Statement.{statement}
-use Rattle.engine.proofs.pairs.list_routes.Tie as tie
+use Rattle.pairs.proofs.list_routes.Statement.{statement}
+use Rattle.pairs.proofs.list_routes.Tie as tie
 
 abbrev Inv-loop : tie.InvT-loop
 Inv-loop platform count flows routes₀ i₀ routes i = Filling (listed []) (listedOf platform) flows count routes i

@@ -8,7 +8,7 @@ use Rattle.plan.specs.declared.Flow.{Flow}
 use Rattle.plan.specs.Legal.{Legal, flow}
 use Rattle.mesh.specs.declared.shared.Pair.{Pair}
 use Rattle.model.specs.Links.{pairOf}
-use Rattle.engine.specs.Pairs.{noPair}
+use Rattle.pairs.specs.Pairs.{noPair}
 
 pub record Scene (p : Platform) (flows : List Flow) (count : ℕ) : Type 0 where
   pub few : count ≤ 64

@@ -1,14 +1,14 @@
--- `engine::pairs::pair_table` meets its contract.
+-- `pairs::pair_table` meets its contract.
 use Prim.Native.Nat.{_-_}
 use native.Mathlib.Omega.{arith}
 use mathlib.Core.Path.{ap, _∙_}
 use lib.ListN.{take, replicate}
-use Rattle.engine.specs.Pairs.{noRow, rowOf}
-use Rattle.engine.proofs.Filling.{Filling, filling-none, filling-room, filling-more, filling-all}
-use Rattle.engine.proofs.Tables.{route-short, table-is}
+use Rattle.pairs.specs.Pairs.{noRow, rowOf}
+use Rattle.pairs.proofs.Filling.{Filling, filling-none, filling-room, filling-more, filling-all}
+use Rattle.pairs.proofs.Tables.{route-short, table-is}
 use borrow.Author.Needs.{needs}
-use Rattle.engine.proofs.pairs.pair_table.Statement.{statement}
-use Rattle.engine.proofs.pairs.pair_table.Tie as tie
+use Rattle.pairs.proofs.pair_table.Statement.{statement}
+use Rattle.pairs.proofs.pair_table.Tie as tie
 
 abbrev Inv-loop : tie.InvT-loop
 Inv-loop count routes table₀ i₀ table i = Filling noRow (rowOf (take count routes)) routes count table i

@@ -18,8 +18,8 @@ use Rattle.mesh.specs.Shared.{Shares}
 use Rattle.mesh.proofs.Theorems.{listed-shares}
 use Rattle.model.specs.Links.{pairOf}
 use Rattle.model.proofs.Links.{ends-of, lengths}
-use Rattle.engine.specs.Scene.{Scene}
-use Rattle.engine.specs.Pairs.{noPair, noRow, pairTable, listed, listedOf, comparedWith, rowOf}
+use Rattle.pairs.specs.Scene.{Scene}
+use Rattle.pairs.specs.Pairs.{noPair, noRow, pairTable, listed, listedOf, comparedWith, rowOf}
 
 -- ---- a cell inside a list has no need of a default
 pub any-default : {A : Type 0} (l : List A) (n : ℕ) (d d′ : A) → n < length l → getD l n d ≡ getD l n d′

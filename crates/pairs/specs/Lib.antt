@@ -1,0 +1,3 @@
+-- What the contracts of this crate and of the engine cite.
+pub mod Pairs
+pub mod Scene
