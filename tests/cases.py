@@ -310,7 +310,7 @@ def figures():
 
 
 def paper_tables():
-    """Tables II and IV of source document 002, on a line; the last flow's deadline is raised so that its bound is within it."""
+    """Tables II and IV of Indrusiak, Burns and Nikolic, on a line; in the last flow's deadline there is room for its bound."""
     first = [flow(6, 1, 0, 1, 12, 1000, 1000), flow(7, 2, 1, 2, 50, 208, 208), flow(8, 3, 0, 2, 100, 257, 257), flow(9, 4, 1, 2, 50, 1000, 1000)]
     for method, bounds in [(1, (14, 52, 169, 362)), (2, (14, 52, 169, 207)), (3, (14, 52, 169, 362))]:
         yield platform(columns=3, method=method) + b"".join(first) + END_RECORD, bounds
