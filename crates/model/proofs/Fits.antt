@@ -16,7 +16,7 @@ use Rattle.recurrence.specs.Sums.{sumOver}
 use Rattle.recurrence.specs.Recurrence.{delay, rightSide}
 use Rattle.recurrence.specs.Verdicts.{Bound}
 use Rattle.recurrence.specs.Limits.{Fair, AllFair}
-use Rattle.recurrence.proofs.Quotients.{up-mono, up-covers}
+use Rattle.recurrence.proofs.Quotients.{up-mono}
 use Rattle.model.specs.declared.Method.{Method}
 use Rattle.model.specs.declared.Method.the-variants.{SB, XLWX, IBN}
 use Rattle.model.specs.declared.Verdict.{Verdict}
@@ -43,12 +43,6 @@ module _ {p : Platform} {f : Flow} (lp : LegalPlatform p) (l : LegalFlow p f) wh
       let a : p .link * (flitsSent p f + length (routeOf p f) - 1) ≤ 16 * 65550 = mul-le-mul {n₂ = 16} {m₂ = 65550} (lp .link .1) (omega (arith, flits-few)) in
       let b : p .routing * (length (routeOf p f) - 1) ≤ 16 * 15 = mul-le-mul {n₂ = 16} {m₂ = 15} (lp .routing .1) (omega arith) in
       omega arith
-
--- No more hits than cycles.
-pub hits-few : (R : ℕ) (k : Flow) → 1 ≤ k .period → hits R k ≤ R + k .jitter
-hits-few R k l =
-    up-covers (R + k .jitter) (R + k .jitter) l .1
-    (omega (arith, mul-le-mul {n₁ = R + k .jitter} {m₁ = 1} {n₂ = R + k .jitter} {m₂ = k .period} (le-refl _) l))
 
 -- ---- the hits of some flows cost no more than the packets of more flows
 -- A term whose delay a flow's hits times its cost do not exceed.

@@ -1,19 +1,16 @@
 -- The flows of a plan that pass a test, and the one of highest priority among them.
-use Prim.Native.Nat.{ℕ, zero, suc, _+_, _≤_, _<_}
+use Prim.Native.Nat.{ℕ, zero, suc, _≤_, _<_}
 use mathlib.Core.Path.{_≡_, refl, sym, _∙_}
 use mathlib.Core.Bool.{Bool, true, false, cond, false≢true}
 use mathlib.Core.List.{List, [], _∷_, map}
 use mathlib.Core.Logic.{_⊎_, inl, inr, ⊎-elim}
 use mathlib.Core.Option.{Option, none, some}
 use native.Mathlib.Nat.{le-refl}
-use native.Mathlib.Numerals.{add-one}
 use native.Mathlib.Omega.{arith}
 use lib.Dec.{ltb}
-use lib.ListN.{length, drop}
-use lib.Seq.{drop-cons}
+use lib.ListN.{length}
 use borrow.Author.Tests.{ltb-true, ltb-false}
 use Rattle.plan.specs.declared.Flow.{Flow}
-use Rattle.plan.specs.Values.{blankFlow}
 use Rattle.plan.specs.Legal.{flow}
 use Rattle.model.specs.Interference.{keep, those}
 use Rattle.model.specs.Verdicts.{higher, highest}
@@ -44,13 +41,6 @@ those-few test (f ∷ fs) = go (test f) (those-few test fs)
     go : (b : Bool) → length (those test fs) ≤ length fs → length (keep b f (those test fs)) ≤ length (f ∷ fs)
     go true h = omega arith
     go false h = omega arith
-
--- The next flow of a list of which the first k have been looked at.
-pub those-next :
-    (test : Flow → Bool) (fs : List Flow) (k : ℕ) → k < length fs →
-    those test (drop k fs) ≡ keep (test (flow fs k)) (flow fs k) (those test (drop (k + 1) fs))
-unfolding those
-those-next test fs k l = rw (drop-cons fs k blankFlow l, add-one k)
 
 -- The highest so far, once f has been looked at.
 abbrev pub next : Bool → Option Flow → Flow → Option Flow

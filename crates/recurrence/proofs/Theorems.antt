@@ -24,17 +24,10 @@ use Rattle.recurrence.proofs.Outcomes.{rounds-once, allowed-once, verdi
 pub allowed-alike : {F : ℕ → ℕ} {c limit : ℕ} {o p : Settled} → Allowed F c limit o → Allowed F c limit p → o ≡ p
 allowed-alike a b = allowed-once _ _ a b
 
--- The right side never falls: a longer window brings no less delay.
-pub right-side-mono : (c : ℕ) (ts : List Term) {x y : ℕ} → x ≤ y → rightSide c ts x ≤ rightSide c ts y
-right-side-mono c ts h = right-side-rising c ts .mono h
-
 module _ (c limit : ℕ) (ts : List Term) where
   -- The outcome that is computed is the allowed one.
   pub outcome-allowed : Allowed (rightSide c ts) c limit (outcome (rightSide c ts) c limit)
   outcome-allowed = computed-allowed (right-side-rising c ts) limit
-
-  pub allowed-computed : {o : Settled} → Allowed (rightSide c ts) c limit o → o ≡ outcome (rightSide c ts) c limit
-  allowed-computed a = allowed-once _ _ a outcome-allowed
 
   -- A bound is not below the latency, so that "R_j - C_j" is a whole number.
   pub latency-within : {r : ℕ} → Bound (rightSide c ts) limit r → c ≤ r
