@@ -9,7 +9,7 @@ mod Turns
 mod Fields
 mod Growth
 mod Listed
-mod Answered
+pub mod Answered
 pub mod Exact
 pub mod Fuel
 pub mod Enough

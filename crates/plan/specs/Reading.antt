@@ -42,7 +42,7 @@ after (Passed FlowRecord) ended platform flow = flow
 after (Passed EndRecord) ended platform flow = ended
 
 -- "The first record in fault decides": the reading from the record at `at` on. Each turn takes 3 bytes or more, so that
--- one turn more than there are bytes is enough (`turns-enough` of proofs/Turns shows that more change nothing).
+-- one turn more than there are bytes is enough (`turns-enough` of proofs/Fuel shows that more change nothing).
 unfoldable pub records : ℕ → List ℕ → ℕ → Platform → List Flow → Reading
 records zero s at p fs = refused 1 at
 records (suc turns) s at p fs =

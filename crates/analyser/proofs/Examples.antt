@@ -1,0 +1,64 @@
+-- Document 01, "The program `bounds`" and "Figures to meet": P's reply, and the rows about the reply, computed from the bytes.
+use Prim.Native.Nat.{ℕ}
+use mathlib.Core.Path.{_≡_, refl}
+use mathlib.Core.List.{List, [], _∷_, _++_, map}
+use lib.ListN.{take, set, replicate}
+use Rattle.framing.specs.First.{_when_else_}
+use Rattle.plan.specs.Table.{tagOf}
+use Rattle.plan.specs.Checks.{headerAt, taggedAt, frameAt, fieldsFrom, clashAt, tailAt, restAt, _then_, bodyAt, recordAt}
+use Rattle.plan.specs.Reading.{accepted, refused, after, records, readPlan}
+use Rattle.plan.specs.PlanP.{P}
+use Rattle.mesh.specs.Mesh.{hops, along, xy}
+use Rattle.mesh.specs.Shared.{on, domain, first-from}
+use Rattle.recurrence.specs.Rounding.{up}
+use Rattle.recurrence.specs.Sums.{sumOver}
+use Rattle.recurrence.specs.Outcome.{outcomeFrom, outcome}
+use Rattle.model.specs.Latency.{methodUsed, latency}
+use Rattle.model.specs.Interference.{directFor, indirectFor, comesBefore, those}
+use Rattle.model.specs.Delays.{allowance, weight, term, terms}
+use Rattle.model.specs.Verdicts.{highest, judged, judge, verdictBelow, verdict, answers}
+use Rattle.reply.specs.Reply.{recordOf, recordsOf}
+use Rattle.analyser.specs.declared.Returned.{Returned}
+use Rattle.analyser.specs.Analysed.{refusal, acceptance, returnedBy, leftBy, returned, left}
+
+-- "Reply, 51 bytes"
+abbrev reply-of-P : List ℕ
+reply-of-P =
+    0x81 ∷ 0x00 ∷ 0x0D ∷ 0x00 ∷ 0x02 ∷ 0x00 ∷ 0xFF ∷ 0xFF ∷ 0x00 ∷ 0x00 ∷ 0x00 ∷ 0x3E ∷ 0x00 ∷ 0x00 ∷ 0x00 ∷ 0x01 ∷
+    0x81 ∷ 0x00 ∷ 0x0D ∷ 0x00 ∷ 0x03 ∷ 0x00 ∷ 0xFF ∷ 0xFF ∷ 0x00 ∷ 0x00 ∷ 0x01 ∷ 0x48 ∷ 0x00 ∷ 0x00 ∷ 0x00 ∷ 0x02 ∷
+    0x81 ∷ 0x00 ∷ 0x0D ∷ 0x00 ∷ 0x05 ∷ 0x00 ∷ 0xFF ∷ 0xFF ∷ 0x00 ∷ 0x00 ∷ 0x01 ∷ 0x8C ∷ 0x00 ∷ 0x00 ∷ 0x00 ∷ 0x02 ∷
+    0x7F ∷ 0x00 ∷ 0x00 ∷ []
+
+-- A plan without flows: its platform and end records.
+abbrev no-flows : List ℕ
+no-flows = 0x01 ∷ 0x00 ∷ 0x06 ∷ 0x06 ∷ 0x01 ∷ 0x01 ∷ 0x00 ∷ 0x0A ∷ 0x03 ∷ 0x7F ∷ 0x00 ∷ 0x00 ∷ []
+
+-- A buffer of some bytes that no reply has.
+abbrev buffer : ℕ → List ℕ
+buffer long = replicate long 0xAA
+
+-- A row: the bytes offered, the buffer's length, what is returned and what the buffer holds then.
+record Row : Type 0 where
+  bytes : List ℕ
+  room : ℕ
+  result : Returned
+  holds : List ℕ
+
+abbrev row : List ℕ → ℕ → Returned → List ℕ → Row
+row bytes room result holds = record { bytes = bytes; room = room; result = result; holds = holds }
+
+abbrev table : List Row
+table =
+    row P 51 (acceptance 51) reply-of-P  -- "reply of 50 / 51 bytes | | refused 11 / accepted"
+    ∷ row P 50 (refusal 11 0) (buffer 50)
+    ∷ row P 54 (acceptance 51) (reply-of-P ++ buffer 3)  -- "A longer buffer keeps its further bytes."
+    ∷ row no-flows 3 (acceptance 3) (0x7F ∷ 0x00 ∷ 0x00 ∷ [])  -- "no flows | | reply 7F 0000"
+    ∷ row no-flows 2 (refusal 11 0) (buffer 2)
+    ∷ row (take 78 P) 60 (refusal 1 78) (buffer 60)  -- "end record missing | | refused 1 at 78"
+    ∷ row (set P 7 65) 60 (refusal 5 7) (buffer 60)  -- "buffer 65 | | refused 5 at 7"
+    ∷ row (set P 7 65) 0 (refusal 5 7) []  -- "Then 10, then 11."
+    ∷ []
+
+replies : (map (λ r. returned (r .bytes) (r .room)) table ≡ map (λ r. r .result) table) × (map (λ r. left (r .bytes) (buffer (r .room))) table ≡ map (λ r. r .holds) table)
+unfolding tagOf headerAt taggedAt frameAt fieldsFrom clashAt tailAt restAt _then_ bodyAt recordAt accepted refused after records readPlan _when_else_ hops along xy on domain first-from up sumOver outcomeFrom outcome methodUsed latency directFor indirectFor comesBefore those allowance weight term terms highest judged judge verdictBelow verdict answers recordOf recordsOf returnedBy leftBy
+replies = (refl, refl)

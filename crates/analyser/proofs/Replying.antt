@@ -1,0 +1,53 @@
+-- `analyse` returns and leaves what is defined, by what was read: a refusal, a plan whose reply does not fit, or one whose reply does.
+use Prim.Native.Nat.{ℕ, _≤_, _<_}
+use mathlib.Core.Path.{_≡_, refl, ap, _∙_}
+use mathlib.Core.List.{List, _++_, map}
+use native.Mathlib.Omega.{arith}
+use borrow.Author.Tests.{lt-ltb, le-ltb}
+use lib.ListN.{length, take, drop, length-map}
+use lib.Seq.{take-at, length-take-le}
+use Rattle.framing.specs.First.{_when_else_}
+use Rattle.plan.specs.declared.Outcome.the-variants.{Accepted, Refused}
+use Rattle.plan.specs.declared.Plan.{Plan}
+use Rattle.plan.specs.declared.Reading.{Reading}
+use Rattle.plan.specs.Reading.{readPlan}
+use Rattle.model.specs.declared.Answer.{Answer}
+use Rattle.model.specs.Verdicts.{answerTo, answers}
+use Rattle.pairs.specs.Scene.{Scene}
+use Rattle.engine.specs.Answers.{answerArray}
+use Rattle.engine.proofs.Accepted.{reading-scene}
+use Rattle.reply.specs.Reply.{replyBytes}
+use Rattle.analyser.specs.declared.Returned.{Returned}
+use Rattle.analyser.specs.Analysed.{needs, refusal, acceptance, returnedBy, leftBy, returned, left}
+
+-- What the contract says of the result and of the bytes left in the buffer.
+abbrev pub Replied : List ℕ → List ℕ → Returned → List ℕ → Type 0
+Replied bytes held r is = (r ≡ returned bytes (length held)) × (is ≡ left bytes held)
+
+-- The answers stand in front of the array's blanks.
+first-answers : (plan : Plan) {list : List Answer} → Scene (plan .platform) (plan .flows) (plan .count) → list ≡ answerArray (plan .platform) (take (plan .count) (plan .flows)) → take (plan .count) list ≡ answers (plan .platform) (take (plan .count) (plan .flows))
+unfolding answers
+first-answers plan w e =
+    let fs = take (plan .count) (plan .flows) in
+    let long : length fs ≡ plan .count = length-take-le (plan .count) (plan .flows) (omega (arith, w .few, w .room)) in
+    rw e (take-at (map (answerTo (plan .platform) fs) fs) _ (plan .count) (length-map fs _ ∙ long))
+
+module _ (bytes held : List ℕ) {r : Reading} (e : r ≡ readPlan bytes) where
+  pub replied-refused : {number place : ℕ} → r .outcome ≡ Refused number place → Replied bytes held (refusal number place) held
+  unfolding returnedBy leftBy
+  replied-refused o = rw (← e, o) (refl, refl)
+
+  module _ (o : r .outcome ≡ Accepted) where
+    pub replied-short : length held < needs (r .plan) → Replied bytes held (refusal 11 0) held
+    unfolding returnedBy leftBy _when_else_
+    replied-short h = rw (← e, o, lt-ltb (length held) (needs (r .plan)) h) (refl, refl)
+
+    pub replied-written :
+        needs (r .plan) ≤ length held → {list : List Answer} {is : List ℕ} →
+        list ≡ answerArray (r .plan .platform) (take (r .plan .count) (r .plan .flows)) →
+        is ≡ replyBytes (take (r .plan .count) list) ++ drop (needs (r .plan)) held →
+        Replied bytes held (acceptance (needs (r .plan))) is
+    unfolding returnedBy leftBy _when_else_
+    replied-written h a w =
+        rw (← e, o, le-ltb (length held) (needs (r .plan)) h)
+        (refl, w ∙ ap (λ (x : List Answer). replyBytes x ++ drop (needs (r .plan)) held) (first-answers (r .plan) (reading-scene bytes e o) a))

@@ -1,0 +1,2 @@
+-- What is returned for any bytes, and what the reply's buffer holds then.
+pub mod Analysed

@@ -1,0 +1,2 @@
+mod Writing
+pub mod Theorems

@@ -1,0 +1,2 @@
+-- The reply's bytes.
+pub mod Reply

@@ -1,0 +1,78 @@
+// One flow's record.
+ghost use mathlib.Core.Path.{_≡_};
+ghost use lib.ListN.{length};
+ghost use Rattle.model.specs.Verdicts.{verdictNumber, namedFlow, boundIn, roundsIn};
+ghost use Rattle.reply.specs.Reply.{recordOf};
+use framing::copy::copy_in;
+use model::Answer;
+use model::Verdict;
+
+// "The named flow is FFFF unless the verdict is 2"
+const NO_FLOW: u16 = 0xFFFF;
+
+// The numbers of a verdict's case.
+struct Parts {
+    number: u8,
+    named: u16,
+    bound: u32,
+    rounds: u32,
+}
+
+fn parts_of(v: Verdict) -> Parts
+    ensures { λ r. ⌜ (r .number ≡ verdictNumber v) × (r .named ≡ namedFlow v) × (r .bound ≡ boundIn v) × (r .rounds ≡ roundsIn v) ⌝ }
+{
+    match v {
+        Verdict::Bounded(bound, rounds) => Parts {
+            number: 0,
+            named: NO_FLOW,
+            bound,
+            rounds,
+        },
+        Verdict::Late(rounds) => Parts {
+            number: 1,
+            named: NO_FLOW,
+            bound: 0,
+            rounds,
+        },
+        Verdict::Waits(id) => Parts {
+            number: 2,
+            named: id,
+            bound: 0,
+            rounds: 0,
+        },
+    }
+}
+
+fn record_bytes(a: Answer) -> [u8; 16]
+    ensures { λ r. ⌜ r ≡ recordOf a ⌝ }
+{
+    let v = a.verdict;
+    let p = parts_of(v);
+    let id = a.id;
+    [
+        0x81,
+        0,
+        13,
+        (id / 256 % 256) as u8,
+        (id % 256) as u8,
+        p.number,
+        (p.named / 256 % 256) as u8,
+        (p.named % 256) as u8,
+        (p.bound / 16777216 % 256) as u8,
+        (p.bound / 65536 % 256) as u8,
+        (p.bound / 256 % 256) as u8,
+        (p.bound % 256) as u8,
+        (p.rounds / 16777216 % 256) as u8,
+        (p.rounds / 65536 % 256) as u8,
+        (p.rounds / 256 % 256) as u8,
+        (p.rounds % 256) as u8,
+    ]
+}
+
+pub(crate) fn put_record(out: &mut [u8], a: Answer)
+    requires { ⌜ length (now out) ≡ 16 ⌝ }
+    ensures { λ _. ⌜ now (out .exit) ≡ recordOf a ⌝ }
+{
+    let bytes = record_bytes(a);
+    copy_in(out, 0, &bytes);
+}
