@@ -1,7 +1,7 @@
 #!/usr/bin/env python3
 """The plans that crates/cases reads, and what it must print of each: the outcome, the plan's values, the answers.
 
-Written from document 01 alone and not from the Rattle code, with other ways where there are any: routes are lists of node
+A second analysis after document 01, by the authors of the first, with no code of it and other ways where there are any: routes are lists of node
 pairs, a side is told by all places and not by the first, and a bound is searched for number by number where that is short.
 
     tests/cases.py            compares crates/cases/data/plans and crates/cases/stdout with what it works out
