@@ -1,21 +1,16 @@
 -- `analyse` returns and leaves what is defined, by what was read: a refusal, a plan whose reply does not fit, or one whose reply does.
 use Prim.Native.Nat.{ℕ, _≤_, _<_}
 use mathlib.Core.Path.{_≡_, refl, ap, _∙_}
-use mathlib.Core.List.{List, _++_, map}
-use native.Mathlib.Omega.{arith}
+use mathlib.Core.List.{List, _++_}
 use borrow.Author.Tests.{lt-ltb, le-ltb}
-use lib.ListN.{length, take, drop, length-map}
-use lib.Seq.{take-at, length-take-le}
+use lib.ListN.{length, take, drop}
 use Rattle.framing.specs.First.{_when_else_}
 use Rattle.plan.specs.declared.Outcome.the-variants.{Accepted, Refused}
-use Rattle.plan.specs.declared.Plan.{Plan}
 use Rattle.plan.specs.declared.Reading.{Reading}
 use Rattle.plan.specs.Reading.{readPlan}
 use Rattle.model.specs.declared.Answer.{Answer}
-use Rattle.model.specs.Verdicts.{answerTo, answers}
-use Rattle.pairs.specs.Scene.{Scene}
 use Rattle.engine.specs.Answers.{answerArray}
-use Rattle.engine.proofs.Accepted.{reading-scene}
+use Rattle.engine.proofs.Accepted.{reading-scene, first-answers}
 use Rattle.reply.specs.Reply.{replyBytes}
 use Rattle.analyser.specs.declared.Returned.{Returned}
 use Rattle.analyser.specs.Analysed.{needs, refusal, acceptance, returnedBy, leftBy, returned, left}
@@ -23,14 +18,6 @@ use Rattle.analyser.specs.Analysed.{needs, refusal, acceptance, returned
 -- What the contract says of the result and of the bytes left in the buffer.
 abbrev pub Replied : List ℕ → List ℕ → Returned → List ℕ → Type 0
 Replied bytes held r is = (r ≡ returned bytes (length held)) × (is ≡ left bytes held)
-
--- The answers stand in front of the array's blanks.
-first-answers : (plan : Plan) {list : List Answer} → Scene (plan .platform) (plan .flows) (plan .count) → list ≡ answerArray (plan .platform) (take (plan .count) (plan .flows)) → take (plan .count) list ≡ answers (plan .platform) (take (plan .count) (plan .flows))
-unfolding answers
-first-answers plan w e =
-    let fs = take (plan .count) (plan .flows) in
-    let long : length fs ≡ plan .count = length-take-le (plan .count) (plan .flows) (omega (arith, w .few, w .room)) in
-    rw e (take-at (map (answerTo (plan .platform) fs) fs) _ (plan .count) (length-map fs _ ∙ long))
 
 module _ (bytes held : List ℕ) {r : Reading} (e : r ≡ readPlan bytes) where
   pub replied-refused : {number place : ℕ} → r .outcome ≡ Refused number place → Replied bytes held (refusal number place) held

@@ -1,11 +1,13 @@
 -- A plan that `plan::read` accepts is one that the engine may be given, and its flows are the plan's.
 use Prim.Native.Nat.{ℕ}
+use native.Mathlib.Omega.{arith}
 use mathlib.Core.Path.{_≡_, refl, sym, ap, subst, _∙_}
-use mathlib.Core.List.{List}
-use lib.ListN.{length, take}
-use lib.Seq.{take-at}
+use mathlib.Core.List.{List, map}
+use lib.ListN.{length, take, length-map}
+use lib.Seq.{take-at, length-take-le}
 use Rattle.plan.specs.declared.Platform.{Platform}
 use Rattle.plan.specs.declared.Flow.{Flow}
+use Rattle.plan.specs.declared.Plan.{Plan}
 use Rattle.plan.specs.declared.Reading.{Reading}
 use Rattle.plan.specs.declared.Outcome.the-variants.{Accepted}
 use Rattle.plan.specs.Padded.{padded}
@@ -13,7 +15,10 @@ use Rattle.plan.specs.Values.{blankFlow}
 use Rattle.plan.specs.Reading.{accepted, readPlan}
 use Rattle.plan.proofs.Padding.{length-padded}
 use Rattle.plan.proofs.Exact.{accepted-plan, legal}
+use Rattle.model.specs.declared.Answer.{Answer}
+use Rattle.model.specs.Verdicts.{answerTo, answers}
 use Rattle.pairs.specs.Scene.{Scene}
+use Rattle.engine.specs.Answers.{answerArray}
 
 pub plan-flows : (fs : List Flow) → take (length fs) (padded blankFlow fs) ≡ fs
 plan-flows fs = take-at fs _ (length fs) refl
@@ -28,3 +33,11 @@ unfolding accepted
 reading-scene s {r} e o =
     let a = accepted-plan s (ap (λ (x : Reading). x .outcome) (sym e) ∙ o) in
     subst (λ (x : Reading). Scene (x .plan .platform) (x .plan .flows) (x .plan .count)) (sym (e ∙ a .2)) (plan-scene s (a .0) (a .1) (a .2))
+
+-- The answers stand in front of the array's blanks.
+pub first-answers : (plan : Plan) {list : List Answer} → Scene (plan .platform) (plan .flows) (plan .count) → list ≡ answerArray (plan .platform) (take (plan .count) (plan .flows)) → take (plan .count) list ≡ answers (plan .platform) (take (plan .count) (plan .flows))
+unfolding answers
+first-answers plan w e =
+    let fs = take (plan .count) (plan .flows) in
+    let long : length fs ≡ plan .count = length-take-le (plan .count) (plan .flows) (omega (arith, w .few, w .room)) in
+    rw e (take-at (map (answerTo (plan .platform) fs) fs) _ (plan .count) (length-map fs _ ∙ long))

@@ -2,4 +2,5 @@
 pub mod Numbers
 pub mod Header
 pub mod Put
+pub mod Each
 pub mod First

@@ -1,0 +1,20 @@
+-- Bytes written behind bytes that were written.
+use Prim.Native.Nat.{ℕ, _+_, _≤_}
+use native.Mathlib.Omega.{arith}
+use mathlib.Core.Path.{_≡_, sym, ap, _∙_}
+use mathlib.Core.List.{List, _++_, append-assoc}
+use lib.ListN.{length, take, drop, length-append}
+use lib.Seq.{take-at, drop-drop, length-take-le, drop-append-add}
+use Rattle.framing.specs.Put.{put}
+
+pub put-put : (old : List ℕ) (at : ℕ) (s t : List ℕ) → at ≤ length old → put (put old at s) (at + length s) t ≡ put old at (s ++ t)
+put-put old at s t h =
+    let front : List ℕ = take at old ++ s in
+    let rest : List ℕ = drop (at + length s) old in
+    let l : length front ≡ at + length s = length-append (take at old) s ∙ ap (λ k. k + length s) (length-take-le at old h) in
+    let n : (at + length s) + length t ≡ at + length (s ++ t) = omega (arith, length-append s t) in
+    let r : drop ((at + length s) + length t) (front ++ rest) ≡ drop (at + length (s ++ t)) old =
+    ap (λ k. drop (k + length t) (front ++ rest)) (sym l) ∙ drop-append-add front rest (length t) ∙ drop-drop (length t) (at + length s) old ∙ ap (λ k. drop k old) n in
+    ap (λ x. (x ++ t) ++ drop ((at + length s) + length t) (front ++ rest)) (take-at front rest (at + length s) l)
+    ∙ ap (λ x. (front ++ t) ++ x) r
+    ∙ ap (λ x. x ++ drop (at + length (s ++ t)) old) (append-assoc (take at old) s t)

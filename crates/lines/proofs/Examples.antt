@@ -1,0 +1,63 @@
+-- Document 01, "The program `bounds`" and "Figures to meet": P's text, and other texts, computed from the bytes.
+use Prim.Native.Nat.{ℕ}
+use mathlib.Core.Path.{_≡_, refl}
+use mathlib.Core.List.{List, [], _∷_, _++_, map}
+use lib.ListN.{take, set}
+use Rattle.framing.specs.First.{_when_else_}
+use Rattle.framing.specs.Each.{each}
+use Rattle.plan.specs.Table.{tagOf}
+use Rattle.plan.specs.Checks.{headerAt, taggedAt, frameAt, fieldsFrom, clashAt, tailAt, restAt, _then_, bodyAt, recordAt}
+use Rattle.plan.specs.Reading.{accepted, refused, after, records, readPlan}
+use Rattle.plan.specs.PlanP.{P}
+use Rattle.mesh.specs.Mesh.{hops, along, xy}
+use Rattle.mesh.specs.Shared.{on, domain, first-from}
+use Rattle.recurrence.specs.Rounding.{up}
+use Rattle.recurrence.specs.Sums.{sumOver}
+use Rattle.recurrence.specs.Outcome.{outcomeFrom, outcome}
+use Rattle.model.specs.Latency.{methodUsed, latency}
+use Rattle.model.specs.Interference.{directFor, indirectFor, comesBefore, those}
+use Rattle.model.specs.Delays.{allowance, weight, term, terms}
+use Rattle.model.specs.Verdicts.{highest, judged, judge, verdictBelow, verdict, answers}
+use Rattle.lines.specs.Decimal.{digitsBelow, decimal}
+use Rattle.lines.specs.Lines.{item, cycles, meshLine, told, flowLine, refusalLine, textBy, textOf}
+
+-- The method's digit stands at the end of P's first line.
+abbrev meshOf : ℕ → List ℕ
+meshOf method = 109 ∷ 101 ∷ 115 ∷ 104 ∷ 32 ∷ 54 ∷ 120 ∷ 49 ∷ 32 ∷ 108 ∷ 105 ∷ 110 ∷ 107 ∷ 32 ∷ 49 ∷ 32 ∷ 114 ∷ 111 ∷ 117 ∷ 116 ∷ 101 ∷ 32 ∷ 48 ∷ 32 ∷ 98 ∷ 117 ∷ 102 ∷ 102 ∷ 101 ∷ 114 ∷ 32 ∷ 49 ∷ 48 ∷ 32 ∷ 109 ∷ 101 ∷ 116 ∷ 104 ∷ 111 ∷ 100 ∷ 32 ∷ method ∷ 10 ∷ []
+
+abbrev flowsOfP : List ℕ
+flowsOfP =
+    -- 2 bounded 62 rounds 1
+    50 ∷ 32 ∷ 98 ∷ 111 ∷ 117 ∷ 110 ∷ 100 ∷ 101 ∷ 100 ∷ 32 ∷ 54 ∷ 50 ∷ 32 ∷ 114 ∷ 111 ∷ 117 ∷ 110 ∷ 100 ∷ 115 ∷ 32 ∷ 49 ∷ 10 ∷
+    -- 3 bounded 328 rounds 2
+    51 ∷ 32 ∷ 98 ∷ 111 ∷ 117 ∷ 110 ∷ 100 ∷ 101 ∷ 100 ∷ 32 ∷ 51 ∷ 50 ∷ 56 ∷ 32 ∷ 114 ∷ 111 ∷ 117 ∷ 110 ∷ 100 ∷ 115 ∷ 32 ∷ 50 ∷ 10 ∷
+    -- 5 bounded 396 rounds 2
+    53 ∷ 32 ∷ 98 ∷ 111 ∷ 117 ∷ 110 ∷ 100 ∷ 101 ∷ 100 ∷ 32 ∷ 51 ∷ 57 ∷ 54 ∷ 32 ∷ 114 ∷ 111 ∷ 117 ∷ 110 ∷ 100 ∷ 115 ∷ 32 ∷ 50 ∷ 10 ∷ []
+
+-- "7 late rounds 1", "9 waits 7": P with a deadline of 327 for flow 3.
+abbrev lateText : List ℕ
+lateText =
+    -- 2 bounded 62 rounds 1
+    50 ∷ 32 ∷ 98 ∷ 111 ∷ 117 ∷ 110 ∷ 100 ∷ 101 ∷ 100 ∷ 32 ∷ 54 ∷ 50 ∷ 32 ∷ 114 ∷ 111 ∷ 117 ∷ 110 ∷ 100 ∷ 115 ∷ 32 ∷ 49 ∷ 10 ∷
+    -- 3 late rounds 1
+    51 ∷ 32 ∷ 108 ∷ 97 ∷ 116 ∷ 101 ∷ 32 ∷ 114 ∷ 111 ∷ 117 ∷ 110 ∷ 100 ∷ 115 ∷ 32 ∷ 49 ∷ 10 ∷
+    -- 5 waits 3
+    53 ∷ 32 ∷ 119 ∷ 97 ∷ 105 ∷ 116 ∷ 115 ∷ 32 ∷ 51 ∷ 10 ∷ []
+
+-- refused 1 at 78, refused 5 at 7
+abbrev cutText : List ℕ
+cutText = 114 ∷ 101 ∷ 102 ∷ 117 ∷ 115 ∷ 101 ∷ 100 ∷ 32 ∷ 49 ∷ 32 ∷ 97 ∷ 116 ∷ 32 ∷ 55 ∷ 56 ∷ 10 ∷ []
+
+abbrev bufferText : List ℕ
+bufferText = 114 ∷ 101 ∷ 102 ∷ 117 ∷ 115 ∷ 101 ∷ 100 ∷ 32 ∷ 53 ∷ 32 ∷ 97 ∷ 116 ∷ 32 ∷ 55 ∷ 10 ∷ []
+
+-- The bytes offered and the text printed; methods are printed as used, so that 0 is printed as 2.
+abbrev offered : List (List ℕ)
+offered = P ∷ set (set P 49 0x01) 50 0x47 ∷ (set (take 9 P) 8 0 ++ (0x7F ∷ 0 ∷ 0 ∷ [])) ∷ take 78 P ∷ set P 7 65 ∷ []
+
+abbrev printed : List (List ℕ)
+printed = (meshOf 51 ++ flowsOfP) ∷ (meshOf 51 ++ lateText) ∷ meshOf 50 ∷ cutText ∷ bufferText ∷ []
+
+texts : map textOf offered ≡ printed
+unfolding tagOf headerAt taggedAt frameAt fieldsFrom clashAt tailAt restAt _then_ bodyAt recordAt accepted refused after records readPlan _when_else_ hops along xy on domain first-from up sumOver outcomeFrom outcome methodUsed latency directFor indirectFor comesBefore those allowance weight term terms highest judged judge verdictBelow verdict answers each digitsBelow decimal item cycles meshLine told flowLine refusalLine textBy
+texts = refl

@@ -1,0 +1,5 @@
+-- The text that `bounds` prints.
+pub mod Words
+pub mod Decimal
+pub mod Written
+pub mod Lines
