@@ -1,0 +1,90 @@
+/* Lingfallow: worst-case delays of the message flows of a plan, for C11 and C++ on x86-64 Linux.
+ *
+ * Link with libanalyser.a, which `rt staticlib analyser` writes to target/staticlib/. "Document 01" is the paper with
+ * the exact rules; plans/ has plans in commented hex, and examples/analyse.c a program to start from.
+ */
+#ifndef LINGFALLOW_H
+#define LINGFALLOW_H
+
+#include <stddef.h>
+#include <stdint.h>
+
+#ifdef __cplusplus
+extern "C" {
+#endif
+
+/* Sizes in bytes. */
+#define LINGFALLOW_LONGEST_PLAN 1484   /* no longer plan is accepted: a platform, 64 flows and the end record */
+#define LINGFALLOW_DECIDING_BYTES 2048 /* of any input the first 2,048 bytes decide: further ones change nothing */
+#define LINGFALLOW_LONGEST_REPLY 1027  /* a buffer of this size has room for every reply, and never meets refusal 11 */
+#define LINGFALLOW_FLOW_RECORD 16      /* a flow's record in the reply */
+
+/* The reply: one record for each flow, in plan order, then the end record 7F 00 00: 16n + 3 bytes for n flows. Numbers
+ * are unsigned, most significant byte first. The record of flow k, counted from 0, starts at 16k:
+ *
+ *   offset  size  meaning
+ *        0     1  tag: 81 hex
+ *        1     2  length of what follows: 13
+ *        3     2  id of the flow
+ *        5     1  verdict: 0 bounded, 1 late, 2 waits
+ *        6     2  named flow: if it waits, the id of its unbounded direct flow of highest priority; otherwise FFFF hex
+ *        8     4  bound: if it is bounded, its worst-case response time in clock cycles; otherwise 0
+ *       12     4  rounds: how often the recurrence was applied; 0 if it waits, or if its unloaded latency alone is late
+ */
+#define LINGFALLOW_BOUNDED 0
+#define LINGFALLOW_LATE 1
+#define LINGFALLOW_WAITS 2
+
+/* What a call returns. */
+struct lingfallow_returned {
+    uint8_t number; /* 0: accepted; 1 to 11: refused */
+    size_t value;   /* accepted: the reply's length; refused: the place */
+};
+
+/* Analyses the plan in the plan_length bytes at plan, and writes its reply into the reply_length bytes at reply.
+ *
+ * Accepted: number is 0 and value is the reply's length, 16n + 3 for a plan of n flows. The first value bytes at reply
+ * hold the reply of the layout above; every further byte of the buffer holds what it held before.
+ *
+ * Refused: number and value are those of this table, where value is an offset into the plan's bytes, or 0 for 11. The
+ * whole buffer holds what it held before.
+ *
+ *   number  given when                                                               value: the place of
+ *        1  under 3 bytes remain where a record must start, or its body is cut       that record's start
+ *        2  unknown tag                                                              the tag
+ *        3  length is not the tag's                                                  the length
+ *        4  first record isn't a platform, or a platform comes later                 the tag
+ *        5  a field outside its values                                               that field
+ *        6  a 65th flow                                                              its tag
+ *        7  id equal to an earlier flow's                                            the id
+ *        8  priority equal to an earlier flow's                                      the priority
+ *        9  source equals destination                                                the destination
+ *       10  a byte after the end record                                              that byte
+ *       11  the reply buffer is too short: reply_length is below 16n + 3             0
+ *
+ * Within a record they are looked for in the order 1 (the record's first 3 bytes), 2, 4, 3, 1 (its body), 6, 5 field
+ * by field, 9, 7, 8. The first record in fault decides; then comes 10, then 11. No refusal is given otherwise.
+ *
+ * It asks nothing of the bytes and nothing of the two lengths: every input is accepted or refused as above. What it
+ * returns and writes hangs on the plan's bytes and on reply_length alone. It always ends; its time grows with the
+ * rounds, which for each flow are at most 2 + the sum over its direct flows j of
+ * (deadline - unloaded latency) / period of j, each rounded up.
+ *
+ * Of the pointers it asks that plan points to plan_length bytes that may be read, reply to reply_length bytes that may
+ * be written, that the two do not overlap, and that nothing else writes to either during the call. Through the pointer
+ * of a buffer of length 0, which may be null, nothing is read or written.
+ *
+ * What it returns, what the buffer holds, the ceiling of the rounds and that it ends are proved of the Rattle code
+ * (crates/analyser/specs/Analysed.antt). Seen in the archive and tested, not proved (tests/examples.sh): null pointers
+ * do as said; it has no data that changes and takes nothing from a heap, so that calls with buffers of their own may
+ * run side by side; it calls memcpy and memset, which the program must have, and no other function; a call takes under
+ * 64 KiB of stack.
+ */
+struct lingfallow_returned lingfallow_analyse(const uint8_t *plan, size_t plan_length, uint8_t *reply,
+                                              size_t reply_length);
+
+#ifdef __cplusplus
+}
+#endif
+
+#endif
