@@ -1,0 +1,33 @@
+#!/usr/bin/env bash
+# Compares the library and the program with the independent program of tests/independent/.
+#   tests/independent.sh [COUNT [SEED]]   the planted faults, then COUNT plans made from SEED
+#   tests/independent.sh --planted        the planted faults alone
+#   tests/independent.sh --plant NAME     one planted fault: shows the disagreement and fails
+#   tests/independent.sh --plan HEX       one plan
+#   tests/independent.sh --help           the options and the planted faults
+set -euo pipefail
+
+cd "$(dirname "$0")/.."
+. tests/common/build.sh
+witness=target/independent/independent
+
+need rustc
+build_archive
+build_bounds
+
+mkdir -p target/independent
+rustc --edition 2021 -O -D warnings -L native=target/staticlib -l static=analyser \
+  -o "$witness" tests/independent/main.rs
+
+case "${1:-}" in
+--help)
+  "$witness" --help
+  ;;
+--*)
+  "$witness" "$bounds" "$@"
+  ;;
+*)
+  "$witness" "$bounds" --planted
+  "$witness" "$bounds" "$@"
+  ;;
+esac

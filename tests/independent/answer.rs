@@ -1,0 +1,106 @@
+//! What is expected for a plan's bytes: a refusal, or the reply and the text.
+
+use crate::claims;
+use crate::law::{Law, Rule};
+use crate::model::{bytes_of, Flow, Number, Plan};
+use crate::reading::{read, Refusal};
+use crate::rules::{method_used, Analysis, Verdict};
+
+pub struct Accepted {
+    pub plan: Plan,
+    pub verdicts: Vec<Verdict>,
+    pub reply: Vec<u8>,
+    pub upstream: usize,
+    pub downstream: usize,
+}
+
+pub struct Expected {
+    pub answer: Result<Accepted, Refusal>,
+    pub text: String,
+}
+
+/// An error is a claim of document 01 that does not hold.
+pub fn expect(bytes: &[u8], law: Law) -> Result<Expected, String> {
+    match read(bytes, law) {
+        Ok(plan) => accepted(plan, law),
+        Err(refusal) => Ok(Expected { answer: Err(refusal), text: refusal_text(refusal, law) }),
+    }
+}
+
+fn accepted(plan: Plan, law: Law) -> Result<Expected, String> {
+    let analysis = Analysis::new(&plan, law);
+    let verdicts = analysis.verdicts();
+    if law.is_whole() {
+        claims::check(&analysis)?;
+    }
+    let pairs = (0..plan.flows.len()).flat_map(|i| analysis.direct(i).into_iter().map(move |j| (i, j)));
+    let (upstream, downstream) = pairs.fold((0, 0), |(up, down), (i, j)| {
+        (up + analysis.upstream(i, j).len(), down + analysis.downstream(i, j).len())
+    });
+    let reply = reply(&plan, &verdicts, law);
+    let text = text(&plan, &verdicts, law);
+    Ok(Expected { answer: Ok(Accepted { plan, verdicts, reply, upstream, downstream }), text })
+}
+
+fn in_order<'a>(plan: &'a Plan, verdicts: &'a [Verdict], law: Law) -> Vec<(&'a Flow, &'a Verdict)> {
+    let mut lines: Vec<_> = plan.flows.iter().zip(verdicts).collect();
+    if law.breaks(Rule::ReplyByPriority) {
+        lines.sort_by_key(|(flow, _)| flow.priority);
+    }
+    lines
+}
+
+fn reply(plan: &Plan, verdicts: &[Verdict], law: Law) -> Vec<u8> {
+    let records = in_order(plan, verdicts, law).into_iter().flat_map(|(flow, verdict)| record(flow, verdict, law));
+    records.chain([0x7F, 0, 0]).collect()
+}
+
+fn record(flow: &Flow, verdict: &Verdict, law: Law) -> Vec<u8> {
+    let none: Number = if law.breaks(Rule::NamedZero) { 0 } else { 0xFFFF };
+    let late_bound = if law.breaks(Rule::LateBound) { flow.deadline } else { 0 };
+    let (number, named, bound, rounds) = match *verdict {
+        Verdict::Bounded { bound, rounds } => (0, none, bound, rounds),
+        Verdict::Late { rounds } => (1, none, late_bound, rounds),
+        Verdict::Waits { named } => (2, named, 0, 0),
+    };
+    let fields = [(0x81, 1), (13, 2), (flow.id, 2), (number, 1), (named, 2), (bound, 4), (rounds, 4)];
+    fields.iter().flat_map(|(value, width)| bytes_of(*value, *width)).collect()
+}
+
+fn text(plan: &Plan, verdicts: &[Verdict], law: Law) -> String {
+    let lines = in_order(plan, verdicts, law).into_iter().map(|(flow, verdict)| line(flow, verdict, law));
+    ended(std::iter::once(mesh_line(plan, law)).chain(lines).collect(), law)
+}
+
+fn mesh_line(plan: &Plan, law: Law) -> String {
+    let p = &plan.platform;
+    let (first, second) = if law.breaks(Rule::TextRowsFirst) { (p.rows, p.columns) } else { (p.columns, p.rows) };
+    let method = if law.breaks(Rule::TextMethodAsked) { p.method } else { method_used(p, law) };
+    format!("mesh {first}x{second} link {} route {} buffer {} method {method}", p.link, p.routing, p.buffer)
+}
+
+fn line(flow: &Flow, verdict: &Verdict, law: Law) -> String {
+    match verdict {
+        Verdict::Bounded { bound, rounds } => format!("{} bounded {bound} rounds {rounds}", flow.id),
+        Verdict::Late { .. } if law.breaks(Rule::TextLateBare) => format!("{} late", flow.id),
+        Verdict::Late { rounds } => format!("{} late rounds {rounds}", flow.id),
+        Verdict::Waits { named } => format!("{} waits {named}", flow.id),
+    }
+}
+
+fn refusal_text(refusal: Refusal, law: Law) -> String {
+    let line = format!("refused {} at {}", refusal.number, refusal.place);
+    if law.breaks(Rule::TextMeshRefused) {
+        return ended(vec!["mesh".to_string(), line], law);
+    }
+    ended(vec![line], law)
+}
+
+fn ended(lines: Vec<String>, law: Law) -> String {
+    let joined = lines.join("\n");
+    if law.breaks(Rule::TextNoLastLf) {
+        joined
+    } else {
+        joined + "\n"
+    }
+}

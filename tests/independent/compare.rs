@@ -1,0 +1,152 @@
+//! One plan's bytes: what is expected against what the library and the program say.
+
+use crate::answer::{expect, Accepted, Expected};
+use crate::law::{Law, Rule};
+use crate::product::{call_library, run_program, Lent, Returned};
+use crate::random::Random;
+use crate::reading::Refusal;
+use crate::tally::Tally;
+use std::io;
+
+pub struct Disagreement {
+    pub bytes: Vec<u8>,
+    pub about: String,
+    pub expected: String,
+    pub came: String,
+}
+
+pub fn hex(bytes: &[u8]) -> String {
+    bytes.iter().map(|byte| format!("{byte:02X}")).collect()
+}
+
+pub struct Trial<'a> {
+    pub bytes: &'a [u8],
+    pub law: Law,
+    pub program: &'a str,
+}
+
+/// What the program reads at most.
+const PROGRAM_READS: usize = 2048;
+
+/// In how many pieces a plan goes into the program, now and then.
+const PIECES: usize = 3;
+
+impl Trial<'_> {
+    fn differ(&self, about: &str, expected: String, came: String) -> Disagreement {
+        Disagreement { bytes: self.bytes.to_vec(), about: about.to_string(), expected, came }
+    }
+
+    fn agree(&self, same: bool, about: &str, sides: impl Fn() -> (String, String)) -> Result<(), Disagreement> {
+        if same {
+            return Ok(());
+        }
+        let (expected, came) = sides();
+        Err(self.differ(about, expected, came))
+    }
+
+    pub fn compare(&self, random: &mut Random, tally: &mut Tally) -> Result<Expected, Disagreement> {
+        let broken = |words| self.differ("a claim of document 01", "that it holds".to_string(), words);
+        let expected = expect(self.bytes, self.law).map_err(broken)?;
+        for length in self.reply_lengths(&expected, random) {
+            self.library(&expected, length, random, tally)?;
+        }
+        self.text(&expected, random)?;
+        self.text_of_part(&expected)?;
+        tally.count(&expected);
+        Ok(expected)
+    }
+
+    /// Exact, one short, longer, 0 and random; for a refused plan any.
+    fn reply_lengths(&self, expected: &Expected, random: &mut Random) -> Vec<usize> {
+        match &expected.answer {
+            Ok(accepted) => {
+                let needed = accepted.reply.len();
+                vec![needed, needed - 1, needed + 1 + random.below(60), 0, random.below(1200)]
+            }
+            Err(_) => vec![1027, random.below(100), 0],
+        }
+    }
+
+    /// The number and the value that belong to a reply buffer's length.
+    fn returned(&self, answer: &Result<Accepted, Refusal>, length: usize) -> (u8, usize) {
+        let too_short = (11, self.law.place(11, 0));
+        match answer {
+            Err(_) if length == 0 && self.law.breaks(Rule::ShortFirst) => too_short,
+            Err(refusal) => (refusal.number, refusal.place),
+            Ok(accepted) => {
+                let needed = accepted.reply.len();
+                let more = usize::from(self.law.breaks(Rule::ReplyOneMore));
+                if length < needed + more {
+                    too_short
+                } else {
+                    (0, needed)
+                }
+            }
+        }
+    }
+
+    /// The reply buffer with its guards as the call has to leave it.
+    fn left(&self, before: &Lent, answer: &Result<Accepted, Refusal>, number: u8) -> Vec<u8> {
+        let mut whole = before.whole.clone();
+        let (start, end) = (before.before, before.before + before.length);
+        if let (Ok(accepted), 0) = (answer, number) {
+            let own = start + accepted.reply.len();
+            whole[start..own].copy_from_slice(&accepted.reply);
+            // At the end of the buffer there is no further byte to write.
+            whole[own] ^= u8::from(self.law.breaks(Rule::FurtherWritten) && own < end);
+        }
+        whole[start] ^= u8::from(self.law.breaks(Rule::RefusalWrites) && number != 0 && before.length > 0);
+        whole[start - 1] ^= u8::from(self.law.breaks(Rule::GuardBefore));
+        whole[end] ^= u8::from(self.law.breaks(Rule::GuardBehind));
+        whole
+    }
+
+    fn library(
+        &self,
+        expected: &Expected,
+        length: usize,
+        random: &mut Random,
+        tally: &mut Tally,
+    ) -> Result<(), Disagreement> {
+        let plan = Lent::holding(self.bytes, random);
+        let reply = Lent::holding(&random.bytes(length), random);
+        let (mut plan_after, mut reply_after) = (plan.clone(), reply.clone());
+        let Returned { number, value } = call_library(&mut plan_after, &mut reply_after);
+        let due = self.returned(&expected.answer, length);
+        let words = |(number, value): (u8, usize)| format!("number {number}, value {value}");
+        let about = format!("the library's number and value, reply buffer of {length}");
+        self.agree(due == (number, value), &about, || (words(due), words((number, value))))?;
+        let left = self.left(&reply, &expected.answer, due.0);
+        let about = format!("the reply buffer of {length}, with {} guard bytes before it", reply.before);
+        self.agree(left == reply_after.whole, &about, || (hex(&left), hex(&reply_after.whole)))?;
+        let mut kept = plan.whole.clone();
+        kept[plan.before + plan.length - 1] ^= u8::from(self.law.breaks(Rule::PlanWritten));
+        let about = format!("the plan's buffer, with {} guard bytes before it", plan.before);
+        self.agree(kept == plan_after.whole, &about, || (hex(&kept), hex(&plan_after.whole)))?;
+        tally.called(number);
+        Ok(())
+    }
+
+    fn text(&self, expected: &Expected, random: &mut Random) -> Result<(), Disagreement> {
+        let pieces = if random.below(64) == 0 { PIECES } else { 1 };
+        let unable = |error: io::Error| self.differ("the program", "that it runs".to_string(), error.to_string());
+        let output = run_program(self.program, self.bytes, pieces).map_err(unable)?;
+        let printed = |bytes: &[u8]| String::from_utf8_lossy(bytes).into_owned();
+        let about = format!("the program's text, its input in {pieces} pieces");
+        let same = output.stdout == expected.text.as_bytes();
+        self.agree(same, &about, || (format!("{:?}", expected.text), format!("{:?}", printed(&output.stdout))))?;
+        let silent = output.stderr.is_empty();
+        self.agree(silent, "standard error", || ("nothing".to_string(), printed(&output.stderr)))?;
+        let good = output.status.code() == Some(0);
+        self.agree(good, "the exit status", || ("0".to_string(), output.status.to_string()))
+    }
+
+    /// The bytes that the program reads always decide the reply.
+    fn text_of_part(&self, expected: &Expected) -> Result<(), Disagreement> {
+        if self.bytes.len() <= PROGRAM_READS {
+            return Ok(());
+        }
+        let text = expect(&self.bytes[..PROGRAM_READS], self.law).map_or_else(|words| words, |part| part.text);
+        self.agree(text == expected.text, "the first 2,048 bytes", || (expected.text.clone(), text.clone()))
+    }
+}

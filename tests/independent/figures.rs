@@ -1,0 +1,192 @@
+//! The fixed list: plan P with its reply and text, and every row of "Figures to meet", typed from document 01.
+
+use crate::answer::Expected;
+use crate::compare::{hex, Disagreement, Trial};
+use crate::law::Law;
+use crate::model::{Flow, Plan, Platform};
+use crate::product::{call_library, Lent};
+use crate::random::Random;
+use crate::rules::Analysis;
+use crate::tally::Tally;
+
+const P: &str = "01 0006 06 01 01 00 0A 03
+    02 0014 0002 0001 04 05 003C 000000C8 000000C8 00000000
+    02 0014 0003 0002 00 05 00C6 00000FA0 00000FA0 00000000
+    02 0014 0005 0003 01 04 0080 00001770 00001770 00000000
+    7F 0000";
+
+const P_REPLY: &str = "81 000D 0002 00 FFFF 0000003E 00000001
+    81 000D 0003 00 FFFF 00000148 00000002
+    81 000D 0005 00 FFFF 0000018C 00000002
+    7F 0000";
+
+const P_TEXT: &str = "mesh 6x1 link 1 route 0 buffer 10 method 3
+2 bounded 62 rounds 1
+3 bounded 328 rounds 2
+5 bounded 396 rounds 2
+";
+
+/// Places in P: of the platform's fields, and of the fields of its three flows.
+const BUFFER: usize = 7;
+const METHOD: usize = 8;
+const FLOW_2: usize = 9;
+const FLOW_3: usize = 32;
+const FLOW_5: usize = 55;
+const END: usize = 78;
+const SOURCE: usize = 7;
+const PERIOD: usize = 11;
+const DEADLINE: usize = 15;
+
+/// The bytes changed in P, and lines that the text must have.
+type Row = (&'static [(usize, &'static [u8])], &'static [&'static str]);
+
+const ROWS: &[Row] = &[
+    (&[], &["2 bounded 62 rounds 1", "3 bounded 328 rounds 2", "5 bounded 396 rounds 2"]),
+    (&[(METHOD, &[1])], &["5 bounded 336 rounds 2"]),
+    (&[(METHOD, &[2])], &["5 bounded 460 rounds 2"]),
+    (&[(METHOD, &[0])], &["5 bounded 460 rounds 2", "mesh 6x1 link 1 route 0 buffer 10 method 2"]),
+    (&[(BUFFER, &[2])], &["5 bounded 348 rounds 2"]),
+    (&[(FLOW_3 + DEADLINE, &[0, 0, 1, 0x48])], &["3 bounded 328 rounds 2"]),
+    (&[(FLOW_3 + DEADLINE, &[0, 0, 1, 0x47])], &["3 late rounds 1", "5 waits 3"]),
+    (&[(FLOW_3 + PERIOD, &[0, 0, 1, 0x90, 0, 0, 1, 0x90]), (METHOD, &[1])], &["5 bounded 540 rounds 3"]),
+    (&[(FLOW_3 + PERIOD, &[0, 0, 1, 0x90, 0, 0, 1, 0x90]), (METHOD, &[2])], &["5 bounded 788 rounds 3"]),
+    (&[(FLOW_3 + PERIOD, &[0, 0, 1, 0x90, 0, 0, 1, 0x90]), (METHOD, &[3])], &["5 bounded 660 rounds 3"]),
+    (&[(FLOW_5 + DEADLINE, &[0, 0, 1, 0x4F]), (METHOD, &[1])], &["5 late rounds 1"]),
+    (&[(FLOW_5 + DEADLINE, &[0, 0, 0, 0x83])], &["5 late rounds 0"]),
+    (&[(FLOW_2 + SOURCE, &[0, 1]), (METHOD, &[0])], &["5 bounded 336 rounds 2"]),
+    (&[(FLOW_2 + SOURCE, &[0, 1]), (METHOD, &[1])], &["5 bounded 336 rounds 2"]),
+    (&[(FLOW_2 + SOURCE, &[0, 1]), (METHOD, &[2])], &["5 bounded 336 rounds 2"]),
+    (&[(FLOW_2 + SOURCE, &[0, 1]), (METHOD, &[3])], &["5 bounded 336 rounds 2"]),
+    (&[(BUFFER, &[65])], &["refused 5 at 7"]),
+];
+
+pub fn from_hex(text: &str) -> Option<Vec<u8>> {
+    let digits: Option<Vec<u32>> = text.chars().filter(|c| !c.is_whitespace()).map(|c| c.to_digit(16)).collect();
+    let digits = digits?;
+    let whole = digits.len() % 2 == 0;
+    whole.then(|| digits.chunks(2).map(|pair| (16 * pair[0] + pair[1]) as u8).collect())
+}
+
+fn typed(text: &str) -> Vec<u8> {
+    from_hex(text).expect("the document's bytes are typed in hex")
+}
+
+/// What the document says against what this program expects; the product is held to the latter.
+fn figure(bytes: &[u8], about: &str, expected: String, came: String) -> Result<(), Disagreement> {
+    if expected == came {
+        return Ok(());
+    }
+    Err(Disagreement { bytes: bytes.to_vec(), about: format!("figures to meet: {about}"), expected, came })
+}
+
+struct Fixed<'a> {
+    program: &'a str,
+    tally: &'a mut Tally,
+    plans: usize,
+}
+
+impl Fixed<'_> {
+    fn agree(&mut self, bytes: &[u8]) -> Result<Expected, Disagreement> {
+        self.plans += 1;
+        let trial = Trial { bytes, law: Law::WHOLE, program: self.program };
+        trial.compare(&mut Random::of_plan(0, self.plans as u64), self.tally)
+    }
+
+    fn plan_p(&mut self) -> Result<(), Disagreement> {
+        let bytes = typed(P);
+        let expected = self.agree(&bytes)?;
+        let reply = expected.answer.map(|accepted| accepted.reply).unwrap_or_default();
+        figure(&bytes, "P's reply", hex(&typed(P_REPLY)), hex(&reply))?;
+        figure(&bytes, "P's text", P_TEXT.to_string(), expected.text)?;
+        short_and_exact(&bytes)
+    }
+
+    fn row(&mut self, row: &Row) -> Result<(), Disagreement> {
+        let mut bytes = typed(P);
+        for (place, new) in row.0 {
+            bytes[*place..place + new.len()].copy_from_slice(new);
+        }
+        let text = self.agree(&bytes)?.text;
+        for line in row.1 {
+            let found = text.lines().find(|printed| printed == line);
+            figure(&bytes, "a row", line.to_string(), found.unwrap_or(&text).to_string())?;
+        }
+        Ok(())
+    }
+
+    fn shorter_plans(&mut self) -> Result<(), Disagreement> {
+        let endless = typed(P)[..END].to_vec();
+        let text = self.agree(&endless)?.text;
+        figure(&endless, "end record missing", "refused 1 at 78\n".to_string(), text)?;
+        let flowless = [&typed(P)[..FLOW_2], &[0x7F, 0, 0]].concat();
+        let expected = self.agree(&flowless)?;
+        let reply = expected.answer.map(|accepted| accepted.reply).unwrap_or_default();
+        figure(&flowless, "no flows", "7F0000".to_string(), hex(&reply))
+    }
+
+    /// A late and a bounded flow with very many rounds. By hand: the late one's x is 4 + 6k after k rounds; the
+    /// bounded one's is 30,002 (k + 1), until k = 30,002, and one round more changes nothing.
+    fn many_rounds(&mut self) -> Result<(), Disagreement> {
+        let busy = "01 0006 02 01 01 00 01 01
+            02 0014 0001 0001 00 01 0001 00000003 00000003 00000000
+            02 0014 0002 0002 00 01 0002 3B9ACA00 002DC6C0 00000000 7F 0000";
+        let text = self.agree(&typed(busy))?.text;
+        let line = |at: usize| text.lines().nth(at).unwrap_or("").to_string();
+        figure(&typed(busy), "x = 4 + 3 up(x / 3)", "2 late rounds 500000".to_string(), line(2))?;
+        let slow = "01 0006 02 01 01 00 01 01
+            02 0014 0001 0001 00 01 7530 00007533 00007533 00000000
+            02 0014 0002 0002 00 01 7530 3B9ACA00 3B9ACA00 00000000 7F 0000";
+        let text = self.agree(&typed(slow))?.text;
+        let line = |at: usize| text.lines().nth(at).unwrap_or("").to_string();
+        figure(&typed(slow), "30,002 of 30,003", "2 bounded 900150006 rounds 30003".to_string(), line(2))
+    }
+}
+
+/// A reply of 50 bytes is refused 11 at 0, one of 51 accepted with the document's bytes.
+fn short_and_exact(bytes: &[u8]) -> Result<(), Disagreement> {
+    for (length, due) in [(50, "11 0 "), (51, "0 51 81000D000200FFFF")] {
+        let mut random = Random::of_plan(0, length as u64);
+        let (mut plan, mut reply) = (Lent::holding(bytes, &mut random), Lent::holding(&vec![0; length], &mut random));
+        let returned = call_library(&mut plan, &mut reply);
+        let start = &reply.whole[reply.before..reply.before + 8];
+        let shown = if returned.number == 0 { hex(start) } else { String::new() };
+        let came = format!("{} {} {shown}", returned.number, returned.value);
+        figure(bytes, "reply of 50 or 51 bytes", due.to_string(), came)?;
+    }
+    Ok(())
+}
+
+/// The wrong turns that can be seen in this program's own routes and windows.
+fn wrong_turns() -> Result<(), Disagreement> {
+    let platform = Platform { columns: 6, rows: 1, link: 1, routing: 0, buffer: 10, method: 3 };
+    let flow = |id, source, destination| Flow {
+        id,
+        priority: id,
+        source,
+        destination,
+        flits: 1,
+        period: 400,
+        deadline: 400,
+        jitter: 0,
+    };
+    let plan = Plan { platform, flows: vec![flow(1, 0, 1), flow(2, 0, 5), flow(3, 1, 2), flow(4, 2, 1)] };
+    let analysis = Analysis::new(&plan, Law::WHOLE);
+    let shared = |i: usize, j: usize| analysis.places[i][j].len().to_string();
+    figure(&[], "0 to 1 and 0 to 5 share", "2".to_string(), shared(0, 1))?;
+    figure(&[], "1 to 2 and 2 to 1 share", "0".to_string(), shared(2, 3))?;
+    let packets = format!("{} {}", analysis.up(400, 400), analysis.up(401, 400));
+    figure(&[], "packets in windows of 400 and 401", "1 2".to_string(), packets)
+}
+
+/// Gives back how many plans it tried.
+pub fn check(program: &str, tally: &mut Tally) -> Result<usize, Disagreement> {
+    let mut fixed = Fixed { program, tally, plans: 0 };
+    wrong_turns()?;
+    fixed.plan_p()?;
+    for row in ROWS {
+        fixed.row(row)?;
+    }
+    fixed.shorter_plans()?;
+    fixed.many_rounds()?;
+    Ok(fixed.plans)
+}

@@ -1,0 +1,177 @@
+//! An independent second witness: document 01 worked out by other means and compared with the product.
+
+mod answer;
+mod claims;
+mod compare;
+mod damage;
+mod figures;
+mod law;
+mod model;
+mod plans;
+mod product;
+mod random;
+mod reading;
+mod routes;
+mod rules;
+mod tally;
+
+use compare::{hex, Disagreement, Trial};
+use law::{plants, Law, Plant};
+use random::Random;
+use std::process::ExitCode;
+use std::time::Instant;
+use tally::Tally;
+
+const DEFAULT_COUNT: u64 = 20_000;
+const DEFAULT_SEED: u64 = 20_160_002;
+
+const HELP: &str = "independent PROGRAM [COUNT [SEED]]     compare over COUNT plans made from SEED
+independent PROGRAM --plan HEX         compare over one plan
+independent PROGRAM --plant NAME [COUNT [SEED]]
+                                       break one rule on the expected side: the run must fail
+independent PROGRAM --planted          do so for every planted fault
+independent --help                     this text and the planted faults
+
+PROGRAM is the path of the program `bounds`.";
+
+/// The first disagreement, with how many plans were tried.
+type Failure = (u64, Disagreement);
+
+fn run(program: &str, law: Law, count: u64, seed: u64, tally: &mut Tally) -> Result<(), Failure> {
+    for index in 0..count {
+        let mut random = Random::of_plan(seed, index);
+        let bytes = damage::some_bytes(&mut random);
+        let trial = Trial { bytes: &bytes, law, program };
+        trial.compare(&mut random, tally).map_err(|disagreement| (index + 1, disagreement))?;
+    }
+    Ok(())
+}
+
+fn show(failure: &Failure) {
+    let (after, disagreement) = failure;
+    println!("DISAGREEMENT at plan {after}: {}", disagreement.about);
+    println!("plan: {}", hex(&disagreement.bytes));
+    println!("expected: {}", disagreement.expected);
+    println!("came: {}", disagreement.came);
+}
+
+/// The fixed list, then the random plans, then what was seen.
+fn compare_all(program: &str, count: u64, seed: u64) -> bool {
+    let start = Instant::now();
+    println!("comparing over {count} plans, seed {seed}");
+    let mut fixed_tally = Tally::default();
+    match figures::check(program, &mut fixed_tally) {
+        Ok(plans) => println!("fixed list: {plans} plans agree"),
+        Err(disagreement) => {
+            show(&(0, disagreement));
+            return false;
+        }
+    }
+    let mut tally = Tally::default();
+    if let Err(failure) = run(program, Law::WHOLE, count, seed, &mut tally) {
+        show(&failure);
+        return false;
+    }
+    tally.print();
+    let unseen = if count >= DEFAULT_COUNT { tally.unseen() } else { Vec::new() };
+    for case in &unseen {
+        println!("NEVER OCCURRED: {case}");
+    }
+    println!("{count} plans, library and program: all agree, {:.1} s", start.elapsed().as_secs_f64());
+    unseen.is_empty()
+}
+
+fn compare_one(program: &str, text: &str) -> bool {
+    let bytes = match figures::from_hex(text) {
+        Some(bytes) => bytes,
+        None => return usage(),
+    };
+    let trial = Trial { bytes: &bytes, law: Law::WHOLE, program };
+    match trial.compare(&mut Random::of_plan(0, 0), &mut Tally::default()) {
+        Ok(expected) => print!("{}", expected.text),
+        Err(disagreement) => {
+            show(&(1, disagreement));
+            return false;
+        }
+    }
+    true
+}
+
+/// A planted run fails as it should, and says so by its exit status like any other run.
+fn compare_planted(program: &str, name: &str, count: u64, seed: u64) -> bool {
+    let found = plants().into_iter().find(|(_, known, _)| known == name);
+    let plant = match found {
+        Some((plant, _, _)) => plant,
+        None => return usage(),
+    };
+    match run(program, Law::with(plant), count, seed, &mut Tally::default()) {
+        Ok(()) => println!("planted {name}: NOT CAUGHT in {count} plans"),
+        Err(failure) => show(&failure),
+    }
+    false
+}
+
+fn caught_after(program: &str, plant: Plant) -> Option<u64> {
+    let ran = run(program, Law::with(plant), DEFAULT_COUNT, DEFAULT_SEED, &mut Tally::default());
+    ran.err().map(|(after, _)| after)
+}
+
+fn every_planted(program: &str) -> bool {
+    let start = Instant::now();
+    let mut missed = 0;
+    for (plant, name, words) in plants() {
+        match caught_after(program, plant) {
+            Some(after) => println!("planted {name}: caught after {after} plans ({words})"),
+            None => {
+                println!("planted {name}: NOT CAUGHT in {DEFAULT_COUNT} plans ({words})");
+                missed += 1;
+            }
+        }
+    }
+    println!("{} planted faults, {missed} not caught, {:.1} s", plants().len(), start.elapsed().as_secs_f64());
+    missed == 0
+}
+
+fn usage() -> bool {
+    println!("{HELP}");
+    for (_, name, words) in plants() {
+        println!("  {name}: {words}");
+    }
+    false
+}
+
+fn numbers(words: &[&str]) -> Option<(u64, u64)> {
+    match words {
+        [] => Some((DEFAULT_COUNT, DEFAULT_SEED)),
+        [count] => Some((count.parse().ok()?, DEFAULT_SEED)),
+        [count, seed] => Some((count.parse().ok()?, seed.parse().ok()?)),
+        _ => None,
+    }
+}
+
+fn with_numbers(words: &[&str], work: impl Fn(u64, u64) -> bool) -> bool {
+    match numbers(words) {
+        Some((count, seed)) => work(count, seed),
+        None => usage(),
+    }
+}
+
+fn main() -> ExitCode {
+    let owned: Vec<String> = std::env::args().skip(1).collect();
+    let words: Vec<&str> = owned.iter().map(String::as_str).collect();
+    let good = match words.as_slice() {
+        [] => usage(),
+        ["--help"] => !usage(),
+        [program, "--planted"] => every_planted(program),
+        [program, "--plan", text] => compare_one(program, text),
+        [program, "--plant", name, rest @ ..] => {
+            with_numbers(rest, |count, seed| compare_planted(program, name, count, seed))
+        }
+        [program, rest @ ..] => with_numbers(rest, |count, seed| compare_all(program, count, seed)),
+    };
+    if good {
+        ExitCode::SUCCESS
+    } else {
+        ExitCode::FAILURE
+    }
+}

@@ -1,0 +1,147 @@
+//! A plan in document 01's words, the table of its fields, and its bytes.
+
+/// Wide enough that no sum of this program can leave it.
+pub type Number = i128;
+
+pub const PLATFORM_TAG: u8 = 0x01;
+pub const FLOW_TAG: u8 = 0x02;
+pub const END_TAG: u8 = 0x7F;
+pub const HEADER: usize = 3;
+
+#[derive(Clone, Debug)]
+pub struct Platform {
+    pub columns: Number,
+    pub rows: Number,
+    pub link: Number,
+    pub routing: Number,
+    pub buffer: Number,
+    pub method: Number,
+}
+
+#[derive(Clone, Debug)]
+pub struct Flow {
+    pub id: Number,
+    pub priority: Number,
+    pub source: Number,
+    pub destination: Number,
+    pub flits: Number,
+    pub period: Number,
+    pub deadline: Number,
+    pub jitter: Number,
+}
+
+#[derive(Clone, Debug)]
+pub struct Plan {
+    pub platform: Platform,
+    pub flows: Vec<Flow>,
+}
+
+/// The highest allowed value of a field.
+#[derive(Clone, Copy)]
+pub enum High {
+    Fixed(Number),
+    LastNode,
+    Period,
+}
+
+/// A field's place counts from its record's tag.
+pub struct Field {
+    pub name: &'static str,
+    pub offset: usize,
+    pub width: usize,
+    pub low: Number,
+    pub high: High,
+}
+
+const fn field(name: &'static str, offset: usize, width: usize, low: Number, high: High) -> Field {
+    Field { name, offset, width, low, high }
+}
+
+pub const BILLION: Number = 1_000_000_000;
+pub const COLUMNS: usize = 3;
+pub const ROWS: usize = 4;
+pub const ID: usize = 3;
+pub const PRIORITY: usize = 5;
+pub const SOURCE: usize = 7;
+pub const DESTINATION: usize = 8;
+pub const PERIOD: usize = 11;
+
+pub const PLATFORM_FIELDS: [Field; 6] = [
+    field("columns", COLUMNS, 1, 1, High::Fixed(8)),
+    field("rows", ROWS, 1, 1, High::Fixed(8)),
+    field("link", 5, 1, 1, High::Fixed(16)),
+    field("routing", 6, 1, 0, High::Fixed(16)),
+    field("buffer", 7, 1, 1, High::Fixed(64)),
+    field("method", 8, 1, 0, High::Fixed(3)),
+];
+
+pub const FLOW_FIELDS: [Field; 8] = [
+    field("id", ID, 2, 0, High::Fixed(65_534)),
+    field("priority", PRIORITY, 2, 1, High::Fixed(65_535)),
+    field("source", SOURCE, 1, 0, High::LastNode),
+    field("destination", DESTINATION, 1, 0, High::LastNode),
+    field("flits", 9, 2, 1, High::Fixed(65_535)),
+    field("period", PERIOD, 4, 1, High::Fixed(BILLION)),
+    field("deadline", 15, 4, 1, High::Period),
+    field("jitter", 19, 4, 0, High::Fixed(BILLION)),
+];
+
+/// The fields of a record by its tag; the end record and unknown ones have none.
+pub fn fields_of(tag: Number) -> &'static [Field] {
+    match u8::try_from(tag) {
+        Ok(PLATFORM_TAG) => &PLATFORM_FIELDS,
+        Ok(FLOW_TAG) => &FLOW_FIELDS,
+        _ => &[],
+    }
+}
+
+/// The body length that belongs to a tag.
+pub fn length_of(tag: Number) -> Option<Number> {
+    match u8::try_from(tag) {
+        Ok(PLATFORM_TAG) => Some(6),
+        Ok(FLOW_TAG) => Some(20),
+        Ok(END_TAG) => Some(0),
+        _ => None,
+    }
+}
+
+/// Most significant byte first, in so many bytes.
+pub fn bytes_of(value: Number, width: usize) -> Vec<u8> {
+    value.to_be_bytes()[16 - width..].to_vec()
+}
+
+impl Platform {
+    pub fn nodes(&self) -> Number {
+        self.columns * self.rows
+    }
+
+    pub fn record(&self) -> Vec<u8> {
+        let values = [self.columns, self.rows, self.link, self.routing, self.buffer, self.method];
+        record(PLATFORM_TAG, &PLATFORM_FIELDS, &values)
+    }
+}
+
+impl Flow {
+    pub fn record(&self) -> Vec<u8> {
+        let ends = [self.id, self.priority, self.source, self.destination];
+        let times = [self.flits, self.period, self.deadline, self.jitter];
+        record(FLOW_TAG, &FLOW_FIELDS, &[ends, times].concat())
+    }
+}
+
+impl Plan {
+    pub fn records(&self) -> Vec<Vec<u8>> {
+        let mut records = vec![self.platform.record()];
+        records.extend(self.flows.iter().map(Flow::record));
+        records.push(record(END_TAG, &[], &[]));
+        records
+    }
+}
+
+fn record(tag: u8, fields: &[Field], values: &[Number]) -> Vec<u8> {
+    let body: Vec<u8> = fields.iter().zip(values).flat_map(|(f, v)| bytes_of(*v, f.width)).collect();
+    let mut bytes = vec![tag];
+    bytes.extend(bytes_of(body.len() as Number, 2));
+    bytes.extend(body);
+    bytes
+}

@@ -1,0 +1,341 @@
+//! The analysis: who delays whom, the three recurrences, verdicts and rounds. A bound is worked out when asked for.
+
+use crate::law::{Law, Rule};
+use crate::model::{Flow, Number, Plan, Platform};
+use crate::routes::{route, shared_places, Link, Places};
+use std::cell::RefCell;
+
+#[derive(Clone, Copy, Debug, PartialEq, Eq)]
+pub enum Verdict {
+    Bounded { bound: Number, rounds: Number },
+    Late { rounds: Number },
+    Waits { named: Number },
+}
+
+/// What a direct flow brings into a recurrence.
+pub struct Term {
+    pub period: Number,
+    pub jitter: Number,
+    pub allowance: Number,
+    pub weight: Number,
+}
+
+pub struct Analysis<'a> {
+    pub plan: &'a Plan,
+    pub routes: Vec<Vec<Link>>,
+    pub places: Places,
+    law: Law,
+    known: RefCell<Vec<Option<Verdict>>>,
+}
+
+const SB: Number = 1;
+const XLWX: Number = 2;
+
+/// Up to so many values of a window are tried one by one.
+const TRIES: Number = 3000;
+
+pub fn method_used(platform: &Platform, law: Law) -> Number {
+    match platform.method {
+        0 if law.breaks(Rule::MethodZeroSb) => SB,
+        0 if law.breaks(Rule::MethodZeroIbn) => 3,
+        0 => XLWX,
+        other => other,
+    }
+}
+
+pub fn latency(platform: &Platform, flow: &Flow, length: usize, law: Law) -> Number {
+    let hops = length as Number - 1;
+    let link = if law.breaks(Rule::LatencyNoLink) { 1 } else { platform.link };
+    let routed = match (law.breaks(Rule::LatencyNoRouting), law.breaks(Rule::LatencyWholeLength)) {
+        (true, _) => 0,
+        (_, true) => hops + 1,
+        _ => hops,
+    };
+    link * (flow.flits + hops) + platform.routing * routed
+}
+
+impl<'a> Analysis<'a> {
+    pub fn new(plan: &'a Plan, law: Law) -> Analysis<'a> {
+        let routes: Vec<Vec<Link>> = plan.flows.iter().map(|flow| route(&plan.platform, flow, law)).collect();
+        let places = shared_places(plan, &routes, law);
+        Analysis { plan, routes, places, law, known: RefCell::new(vec![None; plan.flows.len()]) }
+    }
+
+    pub fn latency(&self, i: usize) -> Number {
+        latency(&self.plan.platform, &self.plan.flows[i], self.routes[i].len(), self.law)
+    }
+
+    fn all(&self) -> std::ops::Range<usize> {
+        0..self.plan.flows.len()
+    }
+
+    fn is_higher(&self, j: usize, i: usize) -> bool {
+        let (of_j, of_i) = (self.plan.flows[j].priority, self.plan.flows[i].priority);
+        if self.law.breaks(Rule::LowestFirst) {
+            of_j > of_i
+        } else {
+            of_j < of_i
+        }
+    }
+
+    pub fn is_direct(&self, j: usize, i: usize) -> bool {
+        let shares = !self.places[j][i].is_empty() || self.law.breaks(Rule::DirectWithoutLink);
+        self.is_higher(j, i) && shares
+    }
+
+    pub fn direct(&self, i: usize) -> Vec<usize> {
+        self.all().filter(|j| self.is_direct(*j, i)).collect()
+    }
+
+    /// Every k direct for j and not direct for i.
+    pub fn indirect(&self, i: usize, j: usize) -> Vec<usize> {
+        let of_j = |k: &usize| {
+            self.is_direct(*k, j)
+                || (self.law.breaks(Rule::AnyPriority) && *k != i && *k != j && !self.places[j][*k].is_empty())
+        };
+        let kept = |k: &usize| self.law.breaks(Rule::DirectKept) || !self.is_direct(*k, i);
+        self.all().filter(of_j).filter(kept).collect()
+    }
+
+    /// Whether all links k shares with j come before all links j shares with i, on j's route.
+    pub fn comes_before(&self, i: usize, j: usize, k: usize) -> bool {
+        self.places[j][k].iter().all(|of_k| self.places[j][i].iter().all(|of_i| of_k < of_i))
+    }
+
+    /// The like for coming after.
+    pub fn comes_after(&self, i: usize, j: usize, k: usize) -> bool {
+        self.places[j][k].iter().all(|of_k| self.places[j][i].iter().all(|of_i| of_k > of_i))
+    }
+
+    fn is_upstream(&self, i: usize, j: usize, k: usize) -> bool {
+        if self.law.breaks(Rule::UpDownSwapped) {
+            self.comes_after(i, j, k)
+        } else {
+            self.comes_before(i, j, k)
+        }
+    }
+
+    pub fn upstream(&self, i: usize, j: usize) -> Vec<usize> {
+        self.indirect(i, j).into_iter().filter(|k| self.is_upstream(i, j, *k)).collect()
+    }
+
+    pub fn downstream(&self, i: usize, j: usize) -> Vec<usize> {
+        self.indirect(i, j).into_iter().filter(|k| !self.is_upstream(i, j, *k)).collect()
+    }
+
+    /// Rounds a quotient up: the negative of the negative quotient rounded down.
+    pub fn up(&self, dividend: Number, divisor: Number) -> Number {
+        if self.law.breaks(Rule::UpPastMultiple) {
+            return dividend.div_euclid(divisor) + 1;
+        }
+        if self.law.breaks(Rule::Down) {
+            return dividend.div_euclid(divisor);
+        }
+        -(-dividend).div_euclid(divisor)
+    }
+
+    /// Asked for flows that are known to be bounded; only a planted fault meets another.
+    pub fn bound(&self, j: usize) -> Number {
+        match self.verdict(j) {
+            Verdict::Bounded { bound, .. } => bound,
+            _ => self.latency(j),
+        }
+    }
+
+    fn hits(&self, j: usize, k: usize) -> Number {
+        let flow = &self.plan.flows[k];
+        let window = if self.law.breaks(Rule::HitsOfLatency) { self.latency(j) } else { self.bound(j) };
+        let jitter = if self.law.breaks(Rule::HitsNoJitter) { 0 } else { flow.jitter };
+        let allowance = if self.law.breaks(Rule::HitsAllowance) { self.bound(k) - self.latency(k) } else { 0 };
+        self.up(window + jitter + allowance, flow.period)
+    }
+
+    fn hits_times(&self, j: usize, over: &[usize], cost: impl Fn(usize) -> Number) -> Number {
+        over.iter().map(|k| self.hits(j, *k) * cost(*k)).sum()
+    }
+
+    /// What one packet of k costs in the sums over k.
+    fn cost(&self, k: usize) -> Number {
+        if self.law.breaks(Rule::SumsOfBounds) {
+            self.bound(k)
+        } else {
+            self.latency(k)
+        }
+    }
+
+    fn allowance(&self, i: usize, j: usize) -> Number {
+        let law = self.law;
+        let of_upstream = || self.hits_times(j, &self.upstream(i, j), |k| self.cost(k));
+        let delay = || self.bound(j) - self.latency(j);
+        match method_used(&self.plan.platform, law) {
+            SB if law.breaks(Rule::SbNoAllowance) => 0,
+            SB => delay(),
+            XLWX if law.breaks(Rule::XlwxAllowanceOfSb) => delay(),
+            XLWX => of_upstream(),
+            _ if law.breaks(Rule::IbnAllowanceOfXlwx) => of_upstream(),
+            _ => delay(),
+        }
+    }
+
+    fn weight(&self, i: usize, j: usize) -> Number {
+        let law = self.law;
+        let alone = self.latency(j);
+        let downstream = self.downstream(i, j);
+        match method_used(&self.plan.platform, law) {
+            SB => alone,
+            XLWX if law.breaks(Rule::XlwxWeightOfSb) => alone,
+            XLWX => alone + self.hits_times(j, &downstream, |k| self.cost(k)),
+            _ if law.breaks(Rule::IbnWeightOfSb) => alone,
+            _ => alone + self.hits_times(j, &downstream, |k| self.lesser(self.cost(k), self.buffered(i, j, k))),
+        }
+    }
+
+    fn lesser(&self, of_k: Number, buffered: Number) -> Number {
+        match (self.law.breaks(Rule::IbnNoMinimum), self.law.breaks(Rule::IbnOnlyB)) {
+            (true, _) => of_k,
+            (_, true) => buffered,
+            _ => of_k.min(buffered),
+        }
+    }
+
+    /// B, the buffers along the links shared by i and j.
+    fn buffered(&self, i: usize, j: usize, k: usize) -> Number {
+        let platform = &self.plan.platform;
+        let other = if self.law.breaks(Rule::BSharedWithK) { k } else { i };
+        let factors = [
+            (platform.buffer, Rule::BNoFlits),
+            (platform.link, Rule::BNoLink),
+            (self.places[j][other].len() as Number, Rule::BNoShared),
+        ];
+        factors.iter().filter(|(_, left_out)| !self.law.breaks(*left_out)).map(|(factor, _)| *factor).product()
+    }
+
+    /// The terms of i's recurrence, one for each direct flow.
+    pub fn terms(&self, i: usize) -> Vec<Term> {
+        let of_flow = |j: usize| {
+            let flow = &self.plan.flows[j];
+            let jitter = if self.law.breaks(Rule::PacketsNoJitter) { 0 } else { flow.jitter };
+            let allowance = if self.law.breaks(Rule::PacketsNoAllowance) { 0 } else { self.allowance(i, j) };
+            Term { period: flow.period, jitter, allowance, weight: self.weight(i, j) }
+        };
+        self.direct(i).into_iter().map(of_flow).collect()
+    }
+
+    /// n_j(x), the packets of one direct flow in a window.
+    pub fn packets(&self, term: &Term, x: Number) -> Number {
+        self.up(x + term.jitter + term.allowance, term.period)
+    }
+
+    pub fn right_side(&self, i: usize, terms: &[Term], x: Number) -> Number {
+        let own = if self.law.breaks(Rule::OwnJitter) { self.plan.flows[i].jitter } else { 0 };
+        self.latency(i) + own + terms.iter().map(|term| self.packets(term, x) * term.weight).sum::<Number>()
+    }
+
+    /// The last value that a bound may have.
+    fn last_allowed(&self, i: usize) -> Number {
+        let later = Number::from(self.law.breaks(Rule::DeadlineOneMore));
+        self.plan.flows[i].deadline + later - Number::from(self.law.breaks(Rule::DeadlineExclusive))
+    }
+
+    /// The least solution not above the deadline: tried value by value where the window is small.
+    fn least_solution(&self, i: usize, terms: &[Term]) -> Option<Number> {
+        let (first, last) = (self.latency(i), self.last_allowed(i));
+        if last - first <= TRIES {
+            return (first..=last).find(|x| self.right_side(i, terms, *x) == *x);
+        }
+        let mut x = first;
+        while x <= last {
+            let new = self.right_side(i, terms, x);
+            if new == x {
+                return Some(x);
+            }
+            x = new;
+        }
+        None
+    }
+
+    /// Counted as the paper words it, apart from the bound.
+    fn rounds(&self, i: usize, terms: &[Term]) -> Number {
+        let (start, deadline) = (self.latency(i), self.last_allowed(i));
+        if start > deadline {
+            return Number::from(self.law.breaks(Rule::RoundsLateOne));
+        }
+        let mut x = if self.law.breaks(Rule::RoundsFromZero) { 0 } else { start };
+        let mut rounds = Number::from(self.law.breaks(Rule::RoundsOneMore));
+        loop {
+            let new = self.right_side(i, terms, x);
+            if new == x {
+                return rounds + Number::from(!self.law.breaks(Rule::RoundsNotLast));
+            }
+            if new > deadline {
+                return rounds + Number::from(!self.law.breaks(Rule::RoundsNotLate));
+            }
+            rounds += 1;
+            x = new;
+        }
+    }
+
+    fn is_reason_to_wait(&self, j: usize) -> bool {
+        match self.verdict(j) {
+            Verdict::Bounded { .. } => false,
+            Verdict::Late { .. } => true,
+            Verdict::Waits { .. } => !self.law.breaks(Rule::WaitingIgnored),
+        }
+    }
+
+    /// The unbounded direct flow of highest priority, if there is one.
+    fn waited_for(&self, i: usize) -> Option<usize> {
+        let unbounded: Vec<usize> = self.direct(i).into_iter().filter(|j| self.is_reason_to_wait(*j)).collect();
+        let priority = |j: &usize| self.plan.flows[*j].priority;
+        if self.law.breaks(Rule::WaitsPlanOrder) {
+            return unbounded.first().copied();
+        }
+        if self.law.breaks(Rule::WaitsLowest) {
+            return unbounded.into_iter().max_by_key(priority);
+        }
+        unbounded.into_iter().min_by_key(priority)
+    }
+
+    fn named(&self, j: usize) -> Number {
+        match self.verdict(j) {
+            Verdict::Waits { named } if self.law.breaks(Rule::WaitsRoot) => named,
+            _ => self.plan.flows[j].id,
+        }
+    }
+
+    fn is_late_early(&self, i: usize) -> bool {
+        let first = self.latency(i);
+        let passes = |j: usize| first > self.plan.flows[j].period;
+        (self.law.breaks(Rule::LateFirst) && first > self.plan.flows[i].deadline)
+            || (self.law.breaks(Rule::LatePastPeriod) && self.direct(i).into_iter().any(passes))
+    }
+
+    fn work_out(&self, i: usize) -> Verdict {
+        if self.is_late_early(i) {
+            return Verdict::Late { rounds: 0 };
+        }
+        if let Some(j) = self.waited_for(i) {
+            return Verdict::Waits { named: self.named(j) };
+        }
+        let terms = self.terms(i);
+        let rounds = self.rounds(i, &terms);
+        match self.least_solution(i, &terms) {
+            Some(bound) => Verdict::Bounded { bound, rounds },
+            None => Verdict::Late { rounds },
+        }
+    }
+
+    /// Worked out once; asks for the verdicts of higher priorities only, so it comes to an end.
+    pub fn verdict(&self, i: usize) -> Verdict {
+        let known = self.known.borrow()[i];
+        known.unwrap_or_else(|| {
+            let verdict = self.work_out(i);
+            self.known.borrow_mut()[i] = Some(verdict);
+            verdict
+        })
+    }
+
+    pub fn verdicts(&self) -> Vec<Verdict> {
+        self.all().map(|i| self.verdict(i)).collect()
+    }
+}

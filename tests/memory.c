@@ -1,0 +1,91 @@
+/* What a call does with memory: the bytes of its reply buffer, null pointers and the stack. Reads plan P.
+ *
+ *     gcc -std=c11 -Iinclude tests/memory.c target/staticlib/libanalyser.a -o target/memory
+ *     target/memory < plans/P.plan
+ */
+#define _XOPEN_SOURCE 700
+#include <stdbool.h>
+#include <stdio.h>
+#include <stdlib.h>
+#include <string.h>
+#include <ucontext.h>
+
+#include "lingfallow.h"
+
+enum { P_LENGTH = 81, P_REPLY = 51, ROOM = 64, HELD = 0xA5, STACK_MOST = 64 * 1024, STACK_LENT = 256 * 1024 };
+
+static const uint8_t p_reply[P_REPLY] = {
+    0x81, 0, 13, 0, 2, 0, 0xFF, 0xFF, 0, 0, 0x00, 0x3E, 0, 0, 0, 1, /* 2 bounded 62 rounds 1 */
+    0x81, 0, 13, 0, 3, 0, 0xFF, 0xFF, 0, 0, 0x01, 0x48, 0, 0, 0, 2, /* 3 bounded 328 rounds 2 */
+    0x81, 0, 13, 0, 5, 0, 0xFF, 0xFF, 0, 0, 0x01, 0x8C, 0, 0, 0, 2, /* 5 bounded 396 rounds 2 */
+    0x7F, 0, 0,
+};
+
+static uint8_t plan[P_LENGTH];
+static uint8_t reply[ROOM];
+static uint8_t stack[STACK_LENT];
+static ucontext_t caller, callee;
+
+static void expect(bool found, const char *what) {
+    if (!found) {
+        fprintf(stderr, "memory: not so: %s\n", what);
+        exit(1);
+    }
+}
+
+static bool held(const uint8_t *bytes, size_t length) {
+    for (size_t i = 0; i < length; i++) {
+        if (bytes[i] != HELD) {
+            return false;
+        }
+    }
+    return true;
+}
+
+/* Whether the call returns this, writes so much of P's reply and leaves all behind it, outside the buffer too. */
+static bool gives(size_t plan_length, size_t reply_length, uint8_t number, size_t value, size_t written) {
+    memset(reply, HELD, ROOM);
+    struct lingfallow_returned returned = lingfallow_analyse(plan, plan_length, reply, reply_length);
+    return returned.number == number && returned.value == value && memcmp(reply, p_reply, written) == 0 &&
+           held(reply + written, ROOM - written);
+}
+
+static bool null_gives(const uint8_t *bytes, size_t length, uint8_t number, size_t value) {
+    struct lingfallow_returned returned = lingfallow_analyse(bytes, length, NULL, 0);
+    return returned.number == number && returned.value == value;
+}
+
+static void analyse_p(void) {
+    lingfallow_analyse(plan, P_LENGTH, reply, ROOM);
+}
+
+/* The call runs on a stack of its own, filled beforehand: what changed of it was used. It grows downwards. */
+static size_t stack_used(void) {
+    memset(stack, HELD, STACK_LENT);
+    expect(getcontext(&callee) == 0, "there is a context");
+    callee.uc_stack.ss_sp = stack;
+    callee.uc_stack.ss_size = STACK_LENT;
+    callee.uc_link = &caller;
+    makecontext(&callee, analyse_p, 0);
+    expect(swapcontext(&caller, &callee) == 0, "the call comes back");
+    size_t untouched = 0;
+    while (untouched < STACK_LENT && stack[untouched] == HELD) {
+        untouched++;
+    }
+    return STACK_LENT - untouched;
+}
+
+int main(void) {
+    expect(fread(plan, 1, P_LENGTH, stdin) == P_LENGTH && getchar() == EOF, "standard input has the 81 bytes of P");
+    expect(gives(P_LENGTH, 50, 11, 0, 0), "a buffer of 50 bytes is too short and stays as it was");
+    expect(gives(P_LENGTH, 51, 0, 51, P_REPLY), "a buffer of 51 bytes holds the reply; nothing behind it changes");
+    expect(gives(P_LENGTH, ROOM, 0, 51, P_REPLY), "a longer buffer keeps its further bytes");
+    expect(gives(78, ROOM, 1, 78, 0), "without the end record P is refused and the buffer stays as it was");
+    expect(gives(0, ROOM, 1, 0, 0), "no bytes are refused and the buffer stays as it was");
+    expect(null_gives(NULL, 0, 1, 0), "two null pointers of length 0 are an empty plan and an empty buffer");
+    expect(null_gives(plan, P_LENGTH, 11, 0), "a null pointer of length 0 is a buffer that is too short");
+    size_t used = stack_used();
+    expect(used < STACK_MOST, "a call takes under 64 KiB of stack");
+    printf("memory: every byte as promised, %zu bytes of stack\n", used);
+    return 0;
+}
