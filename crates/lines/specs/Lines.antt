@@ -16,7 +16,7 @@ use Rattle.model.specs.declared.Answer.{Answer}
 use Rattle.model.specs.Latency.{methodUsed}
 use Rattle.model.specs.Verdicts.{answers}
 use Rattle.lines.specs.declared.Text.{Text}
-use Rattle.lines.specs.Words.{mesh, by, link, route, buffer, method, bounded, late, waits, rounds, refused, at-place, line-end}
+use Rattle.lines.specs.Words.{meshWord, byWord, linkWord, routeWord, bufferWord, methodWord, boundedWord, lateWord, waitsWord, roundsWord, refusedWord, atWord, lineEnd}
 use Rattle.lines.specs.Decimal.{decimal}
 
 -- "Method 1 is SB, 2 is XLWX, 3 is IBN"
@@ -31,25 +31,25 @@ item word n = word ++ decimal n
 
 -- "First the mesh: columns by rows, link cycles, routing cycles,
 unfoldable pub cycles : Platform → List ℕ
-cycles p = (item mesh (p .columns) ++ item by (p .rows)) ++ (item link (p .link) ++ item route (p .routing))
+cycles p = (item meshWord (p .columns) ++ item byWord (p .rows)) ++ (item linkWord (p .link) ++ item routeWord (p .routing))
 
 -- buffer flits, the method really used."
 unfoldable pub meshLine : Platform → List ℕ
-meshLine p = cycles p ++ (item buffer (p .buffer) ++ item method (methodNumber (methodUsed p))) ++ line-end
+meshLine p = cycles p ++ (item bufferWord (p .buffer) ++ item methodWord (methodNumber (methodUsed p))) ++ lineEnd
 
 -- "after `bounded` the bound and rounds, after `late` the rounds, after `waits` the named id"
 unfoldable pub told : Verdict → List ℕ
-told (Bounded r k) = item bounded r ++ item rounds k
-told (Late k) = late ++ item rounds k
-told (Waits id) = item waits id
+told (Bounded r k) = item boundedWord r ++ item roundsWord k
+told (Late k) = lateWord ++ item roundsWord k
+told (Waits id) = item waitsWord id
 
 -- "Then per flow: id and verdict"
 unfoldable pub flowLine : Answer → List ℕ
-flowLine a = decimal (a .id) ++ told (a .verdict) ++ line-end
+flowLine a = decimal (a .id) ++ told (a .verdict) ++ lineEnd
 
 -- "For a refusal it prints only `refused NUMBER at PLACE`."
 unfoldable pub refusalLine : ℕ → ℕ → List ℕ
-refusalLine number place = item refused number ++ item at-place place ++ line-end
+refusalLine number place = item refusedWord number ++ item atWord place ++ lineEnd
 
 -- "A small program prints the same result as text."
 unfoldable pub textBy : Outcome → Plan → List ℕ

@@ -3,53 +3,53 @@ use Prim.Native.Nat.{ℕ}
 use mathlib.Core.List.{List, [], _∷_}
 
 -- "mesh "
-abbrev pub mesh : List ℕ
-mesh = 109 ∷ 101 ∷ 115 ∷ 104 ∷ 32 ∷ []
+abbrev pub meshWord : List ℕ
+meshWord = 109 ∷ 101 ∷ 115 ∷ 104 ∷ 32 ∷ []
 
 -- "x"
-abbrev pub by : List ℕ
-by = 120 ∷ []
+abbrev pub byWord : List ℕ
+byWord = 120 ∷ []
 
 -- " link "
-abbrev pub link : List ℕ
-link = 32 ∷ 108 ∷ 105 ∷ 110 ∷ 107 ∷ 32 ∷ []
+abbrev pub linkWord : List ℕ
+linkWord = 32 ∷ 108 ∷ 105 ∷ 110 ∷ 107 ∷ 32 ∷ []
 
 -- " route "
-abbrev pub route : List ℕ
-route = 32 ∷ 114 ∷ 111 ∷ 117 ∷ 116 ∷ 101 ∷ 32 ∷ []
+abbrev pub routeWord : List ℕ
+routeWord = 32 ∷ 114 ∷ 111 ∷ 117 ∷ 116 ∷ 101 ∷ 32 ∷ []
 
 -- " buffer "
-abbrev pub buffer : List ℕ
-buffer = 32 ∷ 98 ∷ 117 ∷ 102 ∷ 102 ∷ 101 ∷ 114 ∷ 32 ∷ []
+abbrev pub bufferWord : List ℕ
+bufferWord = 32 ∷ 98 ∷ 117 ∷ 102 ∷ 102 ∷ 101 ∷ 114 ∷ 32 ∷ []
 
 -- " method "
-abbrev pub method : List ℕ
-method = 32 ∷ 109 ∷ 101 ∷ 116 ∷ 104 ∷ 111 ∷ 100 ∷ 32 ∷ []
+abbrev pub methodWord : List ℕ
+methodWord = 32 ∷ 109 ∷ 101 ∷ 116 ∷ 104 ∷ 111 ∷ 100 ∷ 32 ∷ []
 
 -- " bounded "
-abbrev pub bounded : List ℕ
-bounded = 32 ∷ 98 ∷ 111 ∷ 117 ∷ 110 ∷ 100 ∷ 101 ∷ 100 ∷ 32 ∷ []
+abbrev pub boundedWord : List ℕ
+boundedWord = 32 ∷ 98 ∷ 111 ∷ 117 ∷ 110 ∷ 100 ∷ 101 ∷ 100 ∷ 32 ∷ []
 
 -- " late"
-abbrev pub late : List ℕ
-late = 32 ∷ 108 ∷ 97 ∷ 116 ∷ 101 ∷ []
+abbrev pub lateWord : List ℕ
+lateWord = 32 ∷ 108 ∷ 97 ∷ 116 ∷ 101 ∷ []
 
 -- " waits "
-abbrev pub waits : List ℕ
-waits = 32 ∷ 119 ∷ 97 ∷ 105 ∷ 116 ∷ 115 ∷ 32 ∷ []
+abbrev pub waitsWord : List ℕ
+waitsWord = 32 ∷ 119 ∷ 97 ∷ 105 ∷ 116 ∷ 115 ∷ 32 ∷ []
 
 -- " rounds "
-abbrev pub rounds : List ℕ
-rounds = 32 ∷ 114 ∷ 111 ∷ 117 ∷ 110 ∷ 100 ∷ 115 ∷ 32 ∷ []
+abbrev pub roundsWord : List ℕ
+roundsWord = 32 ∷ 114 ∷ 111 ∷ 117 ∷ 110 ∷ 100 ∷ 115 ∷ 32 ∷ []
 
 -- "refused "
-abbrev pub refused : List ℕ
-refused = 114 ∷ 101 ∷ 102 ∷ 117 ∷ 115 ∷ 101 ∷ 100 ∷ 32 ∷ []
+abbrev pub refusedWord : List ℕ
+refusedWord = 114 ∷ 101 ∷ 102 ∷ 117 ∷ 115 ∷ 101 ∷ 100 ∷ 32 ∷ []
 
 -- " at "
-abbrev pub at-place : List ℕ
-at-place = 32 ∷ 97 ∷ 116 ∷ 32 ∷ []
+abbrev pub atWord : List ℕ
+atWord = 32 ∷ 97 ∷ 116 ∷ 32 ∷ []
 
 -- "lines ended by LF"
-abbrev pub line-end : List ℕ
-line-end = 10 ∷ []
+abbrev pub lineEnd : List ℕ
+lineEnd = 10 ∷ []
