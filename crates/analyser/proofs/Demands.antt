@@ -1,81 +1,218 @@
--- Demand 1 of the tender, of any bytes offered as a plan and any buffer lent for the reply.
-use Prim.Native.Nat.{ℕ, _+_, _*_, _≤_, _<_}
+-- The tender's three conditions of acceptance, of any bytes offered as a plan and any buffer lent for the reply.
+-- `analyse` promises to return `returned bytes (length held)` and to leave `left bytes held` in the buffer that held `held`.
+-- The words of these statements: `Laid` and `Legal` of plan's specs, `Right` of model's specs/Rules, and this crate's specs/Records.
+use Prim.Native.Nat.{ℕ, _+_, _-_, _*_, _≤_, _<_}
 use mathlib.Core.Path.{_≡_, refl, sym, ap, _∙_}
-use mathlib.Core.Logic.{_↔_}
+use mathlib.Core.Logic.{_↔_, _≢_, Iff·trans}
 use mathlib.Core.List.{List, _++_}
 use native.Mathlib.Decide.{decLt}
 use native.Mathlib.Omega.{arith}
-use borrow.Author.Tests.{lt-ltb, le-ltb}
-use lib.ListN.{length, drop}
-use Rattle.framing.specs.First.{_when_else_}
+use lib.ListN.{length, take, drop}
 use Rattle.plan.specs.declared.Platform.{Platform}
 use Rattle.plan.specs.declared.Flow.{Flow}
 use Rattle.plan.specs.declared.Reading.{Reading}
-use Rattle.plan.specs.declared.Outcome.the-variants.{Accepted, Refused}
-use Rattle.plan.specs.Legal.{Legal}
-use Rattle.plan.specs.Layout.{Laid}
+use Rattle.plan.specs.Legal.{Legal, flow}
+use Rattle.plan.specs.Layout.{Headed, Laid}
 use Rattle.plan.specs.Reading.{accepted, refused, readPlan}
 use Rattle.plan.proofs.Answered.{Answer, accepts, refuses, answered}
 use Rattle.plan.proofs.Exact.{accepted-exactly}
-use Rattle.model.specs.Verdicts.{answers}
-use Rattle.engine.proofs.Accepted.{plan-flows}
+use Rattle.plan.proofs.Enough.{decided}
+use Rattle.recurrence.specs.Rounding.{up}
+use Rattle.recurrence.specs.Sums.{sumOver}
+use Rattle.recurrence.specs.Verdicts.{Bound, NoBound, Rounds}
+use Rattle.model.specs.declared.Verdict.{Verdict}
+use Rattle.model.specs.Latency.{latency, limit}
+use Rattle.model.specs.Interference.{directFor, those}
+use Rattle.model.specs.Verdicts.{recurrenceOf, packetsIn, boundIn, roundsIn, verdict, answerTo, answers}
+use Rattle.model.specs.Rules.{Unbounded, AllBounded, IsWaiting, Right}
+use Rattle.model.proofs.Verdicts.{right, right-once}
+use Rattle.model.proofs.FlowLines.{answer-at, verdict-line, rounds-line}
 use Rattle.reply.specs.Reply.{replyBytes}
 use Rattle.analyser.specs.declared.Returned.{Returned}
-use Rattle.analyser.specs.Analysed.{refusal, acceptance, returnedBy, leftBy, returned, left}
+use Rattle.analyser.specs.Analysed.{refusal, acceptance, returned, left}
+use Rattle.analyser.specs.Records.{answerLines, idAt, verdictAt, namedAt, boundAt, roundsAt, Holds, Bytes}
+use Rattle.analyser.proofs.Replying.{Replied}
+use Rattle.analyser.proofs.Records.{tells-bounded, tells-late, tells-waits, tells-names, tells-only}
+use Rattle.analyser.proofs.Bytes.{same-buffer, reply-bytes}
+use Rattle.analyser.proofs.Deciding.{refused-returned, short-returned, reply-returned, right-lines, held-reply}
 
--- What an offer comes to: what is returned, and what the buffer holds then.
+-- ==== demand 1: what an offer comes to, which is what is returned and what the buffer holds then
+-- The bytes are a plan, and the buffer has room for its reply.
+pub record Fine (bytes held : List ℕ) (p : Platform) (fs : List Flow) : Type 0 where
+  pub laid : Laid bytes p fs
+  pub legal : Legal p fs
+  pub room : 16 * length fs + 3 ≤ length held
+
 pub data Offered (bytes held : List ℕ) : Returned → List ℕ → Type 0 where
-  -- "Every byte string offered as a plan gets an analysis": "on success only the reply's own bytes differ".
-  analysed : (p : Platform) (fs : List Flow) → Laid bytes p fs → Legal p fs → 16 * length fs + 3 ≤ length held → Offered bytes held (acceptance (16 * length fs + 3)) (replyBytes (answers p fs) ++ drop (16 * length fs + 3) held)
+  -- "Every byte string offered as a plan gets an analysis": right answers. "on success only the reply's own bytes differ"
+  analysed :
+      {p : Platform} {fs : List Flow} → Fine bytes held p fs → (answer : Flow → Verdict) → Right p fs answer →
+      Offered bytes held (acceptance (16 * length fs + 3)) (replyBytes (answerLines fs answer) ++ drop (16 * length fs + 3) held)
   -- "or, only for a fault listed in document 01, a numbered refusal with its place": "On refusal the reply buffer is untouched".
   sent-back : (number place : ℕ) → readPlan bytes ≡ refused number place → (1 ≤ number) × (number ≤ 10) → place ≤ length bytes → Offered bytes held (refusal number place) held
   -- "11 | the reply buffer is too short | 0"
   too-short : (p : Platform) (fs : List Flow) → Laid bytes p fs → Legal p fs → length held < 16 * length fs + 3 → Offered bytes held (refusal 11 0) held
 
+-- ==== demand 2: what record k of a buffer says of flow i, where `answer` are the answers to all flows of the plan
+pub record Figures (p : Platform) (fs : List Flow) (answer : Flow → Verdict) (i : Flow) (is : List ℕ) (k : ℕ) : Type 0 where
+  -- "For each flow, in plan order: tag 81, length 13, id (2)"
+  pub headed : Headed is (16 * k) 0x81 13
+  pub id : idAt is k ≡ i .id
+  -- "A bounded flow gets the least whole number that solves its recurrence within its deadline."
+  pub bounded : (r : ℕ) → ((verdictAt is k ≡ 0) × (boundAt is k ≡ r)) ↔ (AllBounded p fs answer i × Bound (recurrenceOf p fs answer i) (limit i) r)
+  -- "It is called late exactly if no such number exists and all its direct interferers are bounded;
+  pub late : (verdictAt is k ≡ 1) ↔ (AllBounded p fs answer i × NoBound (recurrenceOf p fs answer i) (limit i))
+  -- it waits exactly if one of them is not."
+  pub waits : (verdictAt is k ≡ 2) ↔ ((m : ℕ) × Unbounded p fs answer i m)
+  -- "It names the unbounded direct flow of highest priority."
+  pub names : (id : ℕ) → ((verdictAt is k ≡ 2) × (namedAt is k ≡ id)) ↔ IsWaiting p fs answer i id
+  -- "one of three verdicts"
+  pub one-of-three : verdictAt is k ≤ 2
+  -- "The named flow is FFFF unless the verdict is 2; the bound is 0 unless the verdict is 0."
+  pub no-name : verdictAt is k ≢ 2 → namedAt is k ≡ 0xFFFF
+  pub no-bound : verdictAt is k ≢ 0 → boundAt is k ≡ 0
+
+-- The answers are right, no others are, and each flow's record says so.
+pub record Demand2 (p : Platform) (fs : List Flow) (answer : Flow → Verdict) (is : List ℕ) : Type 0 where
+  pub right : Right p fs answer
+  pub only : (other : Flow → Verdict) → Right p fs other → (k : ℕ) → k < length fs → other (flow fs k) ≡ answer (flow fs k)
+  pub each : (k : ℕ) → k < length fs → Figures p fs answer (flow fs k) is k
+
+-- ==== demand 3: the rounds in record k, for flow i. "Rounds are stated over the recurrence of demand 2."
+pub record Demand3 (p : Platform) (fs : List Flow) (answer : Flow → Verdict) (i : Flow) (is : List ℕ) (k : ℕ) : Type 0 where
+  -- "the evaluations of its recurrence, starting at its unloaded latency, until a value repeats or passes the deadline;
+  pub exactly : AllBounded p fs answer i → (n : ℕ) → (roundsAt is k ≡ n) ↔ Rounds (recurrenceOf p fs answer i) (latency p i) (limit i) n
+  -- zero for a flow that waits
+  pub waiting : verdictAt is k ≡ 2 → roundsAt is k ≡ 0
+  -- or whose unloaded latency is above its deadline."
+  pub too-long : limit i < latency p i → roundsAt is k ≡ 0
+  -- "at most two plus, for each direct interferer, the deadline less the unloaded latency, divided by that interferer's period and rounded up"
+  pub plan : roundsAt is k ≤ 2 + sumOver (those (directFor p i) fs) (λ j. up (limit i - latency p i) (j .period))
+  -- "For a bounded flow it is also at most two more than the growth in interfering packets from unloaded latency to bound,
+  pub bounded : verdictAt is k ≡ 0 → roundsAt is k + packetsIn p fs answer i (latency p i) ≤ 2 + packetsIn p fs answer i (boundAt is k)
+  -- for a late one whose unloaded latency is not above its deadline at most one more than that growth up to the deadline."
+  pub late : verdictAt is k ≡ 1 → latency p i ≤ limit i → roundsAt is k + packetsIn p fs answer i (latency p i) ≤ 1 + packetsIn p fs answer i (limit i)
+
+-- ==== the theorems, for every byte string and every buffer
 module _ (bytes held : List ℕ) where
-  by-room :
-      (p : Platform) (fs : List Flow) → Laid bytes p fs → Legal p fs → Dec (length held < 16 * length fs + 3) →
-      Offered bytes held (returnedBy (accepted p fs .outcome) (accepted p fs .plan) (length held)) (leftBy (accepted p fs .outcome) (accepted p fs .plan) held)
-  unfolding accepted returnedBy leftBy _when_else_
-  by-room p fs laid legal (yes h) = rw (lt-ltb (length held) (16 * length fs + 3) h) (too-short p fs laid legal h)
-  by-room p fs laid legal (no h) = rw (le-ltb (length held) (16 * length fs + 3) (omega arith), plan-flows fs) (analysed p fs laid legal (omega arith))
-
-  by-fault :
-      (number place : ℕ) → readPlan bytes ≡ refused number place → (1 ≤ number) × (number ≤ 10) → place ≤ length bytes →
-      Offered bytes held (returnedBy (refused number place .outcome) (refused number place .plan) (length held)) (leftBy (refused number place .outcome) (refused number place .plan) held)
-  unfolding refused returnedBy leftBy
-  by-fault number place e n h = sent-back number place e n h
-
+  -- Demand 1. "no caller has to check anything first": nothing is asked of the bytes or of the buffer.
   pub demand-1 : Offered bytes held (returned bytes (length held)) (left bytes held)
   demand-1 = go (readPlan bytes) refl (answered bytes)
     where
-      go : (r : Reading) → readPlan bytes ≡ r → Answer bytes r → Offered bytes held (returnedBy (r .outcome) (r .plan) (length held)) (leftBy (r .outcome) (r .plan) held)
-      go r e (accepts p fs laid legal) = by-room p fs laid legal (decLt (length held) (16 * length fs + 3))
-      go r e (refuses number place n h) = by-fault number place e n h
+      settled : {r : Returned} {is : List ℕ} → Replied bytes held r is → Offered bytes held r is → Offered bytes held (returned bytes (length held)) (left bytes held)
+      settled (e, f) o = rw (← e, ← f) o
 
--- ---- "only for a fault": accepted exactly if laid out, legal and with room for the reply. So refusing all plans is excluded.
-abbrev Fine : List ℕ → List ℕ → Type 0
-Fine bytes held = (p : Platform) × (fs : List Flow) × Laid bytes p fs × Legal p fs × (16 * length fs + 3 ≤ length held)
+      by-room : (p : Platform) (fs : List Flow) → Laid bytes p fs → Legal p fs → readPlan bytes ≡ accepted p fs → Dec (length held < 16 * length fs + 3) → Offered bytes held (returned bytes (length held)) (left bytes held)
+      by-room p fs laid legal e (yes h) = settled (short-returned bytes held p fs e h) (too-short p fs laid legal h)
+      by-room p fs laid legal e (no h) =
+          settled
+          (rw (← right-lines p fs legal (verdict p fs) (right p fs)) at (reply-returned bytes held p fs e (omega arith)))
+          (analysed (record { laid = laid; legal = legal; room = omega arith }) (verdict p fs) (right p fs))
 
-same-count : (bytes : List ℕ) (p q : Platform) (fs gs : List Flow) → Laid bytes p fs → Laid bytes q gs → length fs ≡ length gs
-same-count bytes p q fs gs a b = omega (arith, a .nothing-else, b .nothing-else)
+      go : (r : Reading) → readPlan bytes ≡ r → Answer bytes r → Offered bytes held (returned bytes (length held)) (left bytes held)
+      go r e (accepts p fs laid legal) = by-room p fs laid legal e (decLt (length held) (16 * length fs + 3))
+      go r e (refuses number place n h) = settled (refused-returned bytes held e) (sent-back number place e n h)
 
-refused-never : (number place : ℕ) (p : Platform) (fs : List Flow) → refused number place ≡ accepted p fs → ⊥
-unfolding refused accepted
-refused-never number place p fs e =
-    let o : Refused number place ≡ Accepted = ap (λ (r : Reading). r .outcome) e in
-    let z : _≡_ {A = ℕ} 0 1 = cc in
-    omega arith
+  module _ {p : Platform} {fs : List Flow} (f : Fine bytes held p fs) where
+    is-plan : readPlan bytes ≡ accepted p fs
+    is-plan = accepted-exactly bytes p fs .1 (f .laid, f .legal)
 
-pub success-exactly : (bytes held : List ℕ) → (returned bytes (length held) .number ≡ 0) ↔ Fine bytes held
-success-exactly bytes held = (go (demand-1 bytes held), back (demand-1 bytes held))
-  where
-    go : {r : Returned} {is : List ℕ} → Offered bytes held r is → r .number ≡ 0 → Fine bytes held
-    go (analysed p fs laid legal room) e = (p, fs, laid, legal, room)
-    go (sent-back number place q n h) e = absurd (omega (arith, n .0))
-    go (too-short p fs laid legal h) e = absurd (omega arith)
+    replies : Replied bytes held (acceptance (16 * length fs + 3)) (replyBytes (answers p fs) ++ drop (16 * length fs + 3) held)
+    replies = reply-returned bytes held p fs is-plan (f .room)
 
-    back : {r : Returned} {is : List ℕ} → Offered bytes held r is → Fine bytes held → r .number ≡ 0
-    back (analysed p fs laid legal room) f = refl
-    back (sent-back number place q n h) (p, fs, laid, legal, room) = absurd (refused-never number place p fs (sym q ∙ accepted-exactly bytes p fs .1 (laid, legal)))
-    back (too-short p fs laid legal h) (q, gs, laid′, legal′, room) = absurd (omega (arith, same-count bytes p q fs gs laid laid′))
+    -- "Acceptance returns number 0 and the reply's length": 16n + 3 bytes for n flows.
+    pub reply-size : returned bytes (length held) ≡ acceptance (16 * length fs + 3)
+    reply-size = sym (replies .0)
+
+    -- What is written is read back: the numbers in the records are the answers'. A longer buffer keeps its further bytes.
+    pub read-back : Holds fs (verdict p fs) held (left bytes held)
+    read-back = rw (← replies .1) (held-reply bytes p fs is-plan held (f .room))
+
+    -- Demand 2. It excludes calling all flows late, writing nothing, and copying flow one's figures down.
+    pub demand-2 : Demand2 p fs (verdict p fs) (left bytes held)
+    demand-2 = record {
+      right = right p fs;
+      only = right-once p fs (f .legal);
+      each = λ k l.
+          let v = verdict p fs (flow fs k) in
+          let a = answerTo p fs (flow fs k) in
+          let t = read-back .each k l in
+          let d = rw (answer-at p fs a k l) at (verdict-line bytes p fs is-plan a k l) in
+          record {
+            headed = t .headed;
+            id = t .id;
+            bounded = λ r. rw (t .verdict, t .bound) (Iff·trans (tells-bounded v r) (d .bounded r));
+            late = rw (t .verdict) (Iff·trans (tells-late v) (d .late));
+            waits = rw (t .verdict) (Iff·trans (tells-waits v) (d .waits));
+            names = λ id. rw (t .verdict, t .named) (Iff·trans (tells-names v id) (d .names id));
+            one-of-three = rw (t .verdict) (tells-only v .0);
+            no-name = rw (t .verdict, t .named) (tells-only v .1);
+            no-bound = rw (t .verdict, t .bound) (tells-only v .2);
+          };
+    }
+
+    -- Demand 3. It excludes inventing rounds.
+    pub demand-3 : (k : ℕ) → k < length fs → Demand3 p fs (verdict p fs) (flow fs k) (left bytes held) k
+    demand-3 k l =
+        let v = verdict p fs (flow fs k) in
+        let a = answerTo p fs (flow fs k) in
+        let t = read-back .each k l in
+        let d = rw (answer-at p fs a k l) at (rounds-line bytes p fs is-plan a k l) in
+        record {
+          exactly = λ free n. rw (t .rounds) (d .exactly free n);
+          waiting = λ e. t .rounds ∙ ap roundsIn (tells-waits v .0 (sym (t .verdict) ∙ e) .1);
+          too-long = λ h. t .rounds ∙ d .too-long h;
+          plan = rw (t .rounds) (d .plan);
+          bounded = λ e. let (n, q) = tells-bounded v (boundIn v) .0 (sym (t .verdict) ∙ e, refl) in rw (t .rounds, t .bound, ap roundsIn q) (d .bounded (boundIn v) n q);
+          late = λ e h. let (n, q) = tells-late v .0 (sym (t .verdict) ∙ e) in rw (t .rounds, ap roundsIn q) (d .late h n q);
+        }
+
+    -- The numbers decide the bytes: a buffer whose records tell right answers is the one that is left.
+    pub told-once : Bytes held → {is : List ℕ} → Bytes is → (answer : Flow → Verdict) → Right p fs answer → Holds fs answer held is → is ≡ left bytes held
+    told-once b c answer a h =
+        same-buffer c (rw (← replies .1) (reply-bytes (answers p fs) (16 * length fs + 3) b))
+        (record {
+          each = λ k l. let q : answer (flow fs k) ≡ verdict p fs (flow fs k) = right-once p fs (f .legal) answer a k l in rw q at (h .each k l);
+          end = h .end;
+          further = h .further;
+          long = h .long;
+        })
+        read-back
+
+  -- "No refusal is given otherwise." It excludes refusing all plans.
+  pub success-exactly : (returned bytes (length held) .number ≡ 0) ↔ ((p : Platform) × (fs : List Flow) × Fine bytes held p fs)
+  success-exactly = (go demand-1, λ (p, fs, f). ap (λ (r : Returned). r .number) (reply-size f))
+    where
+      go : {r : Returned} {is : List ℕ} → Offered bytes held r is → r .number ≡ 0 → (p : Platform) × (fs : List Flow) × Fine bytes held p fs
+      go (analysed {p} {fs} f answer right) e = (p, fs, f)
+      go (sent-back number place q n h) e = absurd (omega (arith, n .0))
+      go (too-short p fs laid legal h) e = absurd (omega arith)
+
+  -- What `analyse` promises is what an offer comes to, no less and no more.
+  pub promised-exactly : (r : Returned) (is : List ℕ) → ((r ≡ returned bytes (length held)) × (is ≡ left bytes held)) ↔ Offered bytes held r is
+  promised-exactly r is = ((λ (e, f). rw (e, f) demand-1), go)
+    where
+      go : {r : Returned} {is : List ℕ} → Offered bytes held r is → Replied bytes held r is
+      go (analysed {p} {fs} f answer right) = rw (right-lines p fs (f .legal) answer right) (replies f)
+      go (sent-back number place e n h) = refused-returned bytes held e
+      go (too-short p fs laid legal h) = short-returned bytes held p fs (accepted-exactly bytes p fs .1 (laid, legal)) h
+
+  -- "two results allowed for one input coincide"
+  pub once : (r q : Returned) (is us : List ℕ) → Offered bytes held r is → Offered bytes held q us → (r ≡ q) × (is ≡ us)
+  once r q is us a b =
+      let (e, f) = promised-exactly r is .1 a in
+      let (g, h) = promised-exactly q us .1 b in
+      (e ∙ sym g, f ∙ sym h)
+
+  -- "Its own reply buffer holds 1,027 bytes, so it never meets 11."
+  pub always-room : 1027 ≤ length held → returned bytes (length held) .number ≢ 11
+  always-room long = go demand-1
+    where
+      go : {r : Returned} {is : List ℕ} → Offered bytes held r is → r .number ≢ 11
+      go (analysed f answer right) e = omega arith
+      go (sent-back number place q n h) e = omega (arith, n .1)
+      go (too-short p fs laid legal h) e = omega (arith, legal .few)
+
+  -- "It reads at most 2,048 bytes of standard input, which always decides the reply"
+  pub enough : (returned (take 2048 bytes) (length held) ≡ returned bytes (length held)) × (left (take 2048 bytes) held ≡ left bytes held)
+  enough = rw (decided bytes) (refl, refl)

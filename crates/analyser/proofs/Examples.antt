@@ -1,9 +1,14 @@
 -- Document 01, "The program `bounds`" and "Figures to meet": P's reply, and the rows about the reply, computed from the bytes.
+-- And "Reading the promises strictly": what the wrong programs give for P is not what an offer of it comes to.
 use Prim.Native.Nat.{ℕ}
-use mathlib.Core.Path.{_≡_, refl}
+use mathlib.Core.Path.{_≡_, refl, ap, _∙_}
+use mathlib.Core.Logic.{_≢_}
 use mathlib.Core.List.{List, [], _∷_, _++_, map}
-use lib.ListN.{take, set, replicate}
+use native.Mathlib.Omega.{arith}
+use lib.ListN.{take, getD, set, replicate}
+use Rattle.framing.specs.Numbers.{oneAt}
 use Rattle.framing.specs.First.{_when_else_}
+use Rattle.framing.specs.Each.{each}
 use Rattle.plan.specs.Table.{tagOf}
 use Rattle.plan.specs.Checks.{headerAt, taggedAt, frameAt, fieldsFrom, clashAt, tailAt, restAt, _then_, bodyAt, recordAt}
 use Rattle.plan.specs.Reading.{accepted, refused, after, records, readPlan}
@@ -17,9 +22,11 @@ use Rattle.model.specs.Latency.{methodUsed, latency}
 use Rattle.model.specs.Interference.{directFor, indirectFor, comesBefore, those}
 use Rattle.model.specs.Delays.{allowance, weight, term, terms}
 use Rattle.model.specs.Verdicts.{highest, judged, judge, verdictBelow, verdict, answers}
-use Rattle.reply.specs.Reply.{recordOf, recordsOf}
+use Rattle.reply.specs.Reply.{recordOf}
 use Rattle.analyser.specs.declared.Returned.{Returned}
 use Rattle.analyser.specs.Analysed.{refusal, acceptance, returnedBy, leftBy, returned, left}
+use Rattle.analyser.specs.Records.{idAt, verdictAt, boundAt, roundsAt}
+use Rattle.analyser.proofs.Demands.{Offered, promised-exactly}
 
 -- "Reply, 51 bytes"
 abbrev reply-of-P : List ℕ
@@ -60,5 +67,31 @@ table =
     ∷ []
 
 replies : (map (λ r. returned (r .bytes) (r .room)) table ≡ map (λ r. r .result) table) × (map (λ r. left (r .bytes) (buffer (r .room))) table ≡ map (λ r. r .holds) table)
-unfolding tagOf headerAt taggedAt frameAt fieldsFrom clashAt tailAt restAt _then_ bodyAt recordAt accepted refused after records readPlan _when_else_ hops along xy on domain first-from up sumOver outcomeFrom outcome methodUsed latency directFor indirectFor comesBefore those allowance weight term terms highest judged judge verdictBelow verdict answers recordOf recordsOf returnedBy leftBy
+unfolding tagOf headerAt taggedAt frameAt fieldsFrom clashAt tailAt restAt _then_ bodyAt recordAt accepted refused after records readPlan _when_else_ hops along xy on domain first-from up sumOver outcomeFrom outcome methodUsed latency directFor indirectFor comesBefore those allowance weight term terms highest judged judge verdictBelow verdict answers recordOf each returnedBy leftBy
 replies = (refl, refl)
+
+-- "These must be turned down": what P's offer comes to, with a buffer of 51 bytes, is none of what these programs give.
+record NotWrong (r : Returned) (is : List ℕ) : Type 0 where
+  -- "refusing all plans (by demand 1)",
+  refusing : r .number ≡ 0
+  -- "calling all flows late or writing nothing (2);
+  late : verdictAt is 0 ≢ 1
+  nothing : is ≢ buffer 51
+  -- analysing flow one and copying its figures down (2);
+  copied : (boundAt is 1 ≢ boundAt is 0) × (idAt is 1 ≢ idAt is 0)
+  -- inventing rounds (3, ..)".
+  invented : map (roundsAt is) (0 ∷ 1 ∷ 2 ∷ []) ≡ 1 ∷ 2 ∷ 2 ∷ []
+
+wrong-excluded : (r : Returned) (is : List ℕ) → Offered P (buffer 51) r is → NotWrong r is
+wrong-excluded r is o =
+    let (e, f) = promised-exactly P (buffer 51) r is .1 o in
+    let a : r ≡ acceptance 51 = e ∙ ap (λ l. getD l 0 (refusal 0 0)) (replies .0) in
+    let b : is ≡ reply-of-P = f ∙ ap (λ l. getD l 0 []) (replies .1) in
+    rw (a, b)
+    (record {
+      refusing = refl;
+      late = λ e. omega arith;
+      nothing = λ e. absurd (omega (arith, ap (λ (s : List ℕ). oneAt s 0) e));
+      copied = ((λ e. omega arith), λ e. omega arith);
+      invented = refl;
+    })

@@ -1,3 +1,6 @@
 mod Replying
+mod Records
+mod Bytes
+mod Deciding
 pub mod Demands
 mod Examples

@@ -13,7 +13,7 @@ use Rattle.engine.specs.Answers.{answerArray}
 use Rattle.engine.proofs.Accepted.{reading-scene, first-answers}
 use Rattle.reply.specs.Reply.{replyBytes}
 use Rattle.analyser.specs.declared.Returned.{Returned}
-use Rattle.analyser.specs.Analysed.{needs, refusal, acceptance, returnedBy, leftBy, returned, left}
+use Rattle.analyser.specs.Analysed.{needs, replyTo, refusal, acceptance, returnedBy, leftBy, returned, left}
 
 -- What the contract says of the result and of the bytes left in the buffer.
 abbrev pub Replied : List ℕ → List ℕ → Returned → List ℕ → Type 0
@@ -29,12 +29,15 @@ module _ (bytes held : List ℕ) {r : Reading} (e : r ≡ readPlan bytes) where
     unfolding returnedBy leftBy _when_else_
     replied-short h = rw (← e, o, lt-ltb (length held) (needs (r .plan)) h) (refl, refl)
 
+    pub replied-analysed : needs (r .plan) ≤ length held → Replied bytes held (acceptance (needs (r .plan))) (replyTo (r .plan) ++ drop (needs (r .plan)) held)
+    unfolding returnedBy leftBy _when_else_
+    replied-analysed h = rw (← e, o, le-ltb (length held) (needs (r .plan)) h) (refl, refl)
+
     pub replied-written :
         needs (r .plan) ≤ length held → {list : List Answer} {is : List ℕ} →
         list ≡ answerArray (r .plan .platform) (take (r .plan .count) (r .plan .flows)) →
         is ≡ replyBytes (take (r .plan .count) list) ++ drop (needs (r .plan)) held →
         Replied bytes held (acceptance (needs (r .plan))) is
-    unfolding returnedBy leftBy _when_else_
     replied-written h a w =
-        rw (← e, o, le-ltb (length held) (needs (r .plan)) h)
-        (refl, w ∙ ap (λ (x : List Answer). replyBytes x ++ drop (needs (r .plan)) held) (first-answers (r .plan) (reading-scene bytes e o) a))
+        let (number, all) = replied-analysed h in
+        (number, w ∙ ap (λ (x : List Answer). replyBytes x ++ drop (needs (r .plan)) held) (first-answers (r .plan) (reading-scene bytes e o) a) ∙ all)

@@ -1,5 +1,6 @@
 mod Widths
 mod Copied
+pub mod BigEndian
 pub mod Each
 pub mod Puts
 pub mod First

@@ -1,5 +1,6 @@
 -- What the contracts of this crate and of the crates above it cite.
 pub mod Numbers
+pub mod BigEndian
 pub mod Header
 pub mod Put
 pub mod Each

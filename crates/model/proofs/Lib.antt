@@ -5,6 +5,6 @@ pub mod Judged
 pub mod Verdicts
 pub mod Fits
 pub mod Sides
-pub mod Demands
+pub mod FlowLines
 pub mod Figures
 mod Examples

@@ -1,2 +1,2 @@
-mod Writing
+pub mod Writing
 pub mod Theorems

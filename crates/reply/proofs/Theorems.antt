@@ -5,14 +5,16 @@ use mathlib.Core.List.{List}
 use native.Mathlib.Omega.{arith}
 use lib.ListN.{length, length-append}
 use Rattle.framing.specs.Numbers.{oneAt, twoAt, fourAt}
+use Rattle.framing.specs.Each.{each}
+use Rattle.framing.proofs.BigEndian.{from-two, from-four}
 use Rattle.model.specs.declared.Answer.{Answer}
 use Rattle.model.specs.Verdicts.{verdictNumber, namedFlow, boundIn, roundsIn}
-use Rattle.reply.specs.Reply.{recordOf, recordsOf, endRecord, replyBytes}
+use Rattle.reply.specs.Reply.{recordOf, endRecord, replyBytes}
 use Rattle.reply.proofs.Writing.{length-records}
 
 -- "A plan of n flows needs 16n + 3 bytes"
 pub reply-length : (list : List Answer) → length (replyBytes list) ≡ 16 * length list + 3
-reply-length list = length-append (recordsOf list) endRecord ∙ omega (arith, length-records list)
+reply-length list = length-append (each recordOf list) endRecord ∙ omega (arith, length-records list)
 
 -- The numbers of an answer fit the bytes that a record has for them.
 pub record Fits (a : Answer) : Type 0 where
@@ -31,29 +33,14 @@ pub record ReadBack (a : Answer) : Type 0 where
   pub bound : fourAt (recordOf a) 8 ≡ boundIn (a .verdict)
   pub rounds : fourAt (recordOf a) 12 ≡ roundsIn (a .verdict)
 
-two-bytes : (x : ℕ) → x < 65536 → 256 * (x / 256 % 256) + x % 256 ≡ x
-two-bytes x h = omega arith
-
-halves : (x high low : ℕ) → high ≡ x / 65536 → low ≡ x % 65536 → 65536 * high + low ≡ x
-halves x high low e f = omega arith
-
-four-bytes : (x : ℕ) → x < 4294967296 → 65536 * (256 * (x / 16777216 % 256) + x / 65536 % 256) + (256 * (x / 256 % 256) + x % 256) ≡ x
-four-bytes x h = halves x _ _ (high ∙ two-bytes (x / 65536) (omega arith)) (low ∙ two-bytes (x % 65536) (omega arith))
-  where
-    high : 256 * (x / 16777216 % 256) + x / 65536 % 256 ≡ 256 * (x / 65536 / 256 % 256) + x / 65536 % 256
-    high = ap (λ (n : ℕ). 256 * (n % 256) + x / 65536 % 256) (omega arith)
-
-    low : 256 * (x / 256 % 256) + x % 256 ≡ 256 * (x % 65536 / 256 % 256) + x % 65536 % 256
-    low = ap₂ (λ (n m : ℕ). 256 * n + m) (omega arith) (omega arith)
-
 pub read-back : (a : Answer) → Fits a → ReadBack a
 unfolding recordOf
 read-back a f = record {
   tag = refl;
   length = refl;
-  id = two-bytes _ (f .id);
+  id = from-two _ (f .id);
   verdict = refl;
-  named = two-bytes _ (f .named);
-  bound = four-bytes _ (f .bound);
-  rounds = four-bytes _ (f .rounds);
+  named = from-two _ (f .named);
+  bound = from-four _ (f .bound);
+  rounds = from-four _ (f .rounds);
 }

@@ -3,6 +3,7 @@ ghost use mathlib.Core.Path.{_≡_};
 ghost use lib.ListN.{length};
 ghost use Rattle.model.specs.Verdicts.{verdictNumber, namedFlow, boundIn, roundsIn};
 ghost use Rattle.reply.specs.Reply.{recordOf};
+use framing::big_endian::byte_of;
 use framing::copy::copy_in;
 use model::Answer;
 use model::Verdict;
@@ -48,24 +49,25 @@ fn record_bytes(a: Answer) -> [u8; 16]
 {
     let v = a.verdict;
     let p = parts_of(v);
-    let id = a.id;
+    let id = a.id as u32;
+    let named = p.named as u32;
     [
         0x81,
         0,
         13,
-        (id / 256 % 256) as u8,
-        (id % 256) as u8,
+        byte_of(256, id),
+        byte_of(1, id),
         p.number,
-        (p.named / 256 % 256) as u8,
-        (p.named % 256) as u8,
-        (p.bound / 16777216 % 256) as u8,
-        (p.bound / 65536 % 256) as u8,
-        (p.bound / 256 % 256) as u8,
-        (p.bound % 256) as u8,
-        (p.rounds / 16777216 % 256) as u8,
-        (p.rounds / 65536 % 256) as u8,
-        (p.rounds / 256 % 256) as u8,
-        (p.rounds % 256) as u8,
+        byte_of(256, named),
+        byte_of(1, named),
+        byte_of(16777216, p.bound),
+        byte_of(65536, p.bound),
+        byte_of(256, p.bound),
+        byte_of(1, p.bound),
+        byte_of(16777216, p.rounds),
+        byte_of(65536, p.rounds),
+        byte_of(256, p.rounds),
+        byte_of(1, p.rounds),
     ]
 }
 

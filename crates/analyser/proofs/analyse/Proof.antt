@@ -31,7 +31,9 @@ analyse-plan-requires : tie.Need-analyse-plan-requires
 analyse-plan-requires c κs = reading-scene _ (c .before .before .before .before .before .read .ensures) (c .before .before .before .enum-told .given .1)
 
 put-reply-requires : tie.Need-put-reply-requires
-put-reply-requires c κs = (reading-scene _ (c .before .before .before .before .before .before .before .read .ensures) (c .before .before .before .before .before .enum-told .given .1) .few, c .before .before .if1 .left)
+put-reply-requires c κs =
+    let w = reading-scene _ (c .before .before .before .before .before .before .before .read .ensures) (c .before .before .before .before .before .enum-told .given .1) in
+    (omega (arith, w .few), omega (arith, c .before .before .if1 .left))
 
 same-length : tie.Need-same-length
 same-length c = search needs

@@ -7,63 +7,88 @@ use Rattle.reply.proofs.record.record_bytes.Tie as tie
 parts-of-requires : tie.Need-parts-of-requires
 parts-of-requires c κs = search needs
 
-cast-t7 : tie.Need-cast-t7
-cast-t7 c = search needs
+cast-id : tie.Need-cast-id
+cast-id c = search needs
 
-cast-t9 : tie.Need-cast-t9
-cast-t9 c = search needs
+cast-named : tie.Need-cast-named
+cast-named c = search needs
 
-cast-t12 : tie.Need-cast-t12
-cast-t12 c = search needs
+byte-of-requires : tie.Need-byte-of-requires
+byte-of-requires c κs = search needs
 
-cast-t14 : tie.Need-cast-t14
-cast-t14 c = search needs
+byte-of-requires-2 : tie.Need-byte-of-requires-2
+byte-of-requires-2 c κs = search needs
 
-cast-t17 : tie.Need-cast-t17
-cast-t17 c = search needs
+byte-of-requires-3 : tie.Need-byte-of-requires-3
+byte-of-requires-3 c κs = search needs
 
-cast-t20 : tie.Need-cast-t20
-cast-t20 c = search needs
+byte-of-requires-4 : tie.Need-byte-of-requires-4
+byte-of-requires-4 c κs = search needs
 
-cast-t23 : tie.Need-cast-t23
-cast-t23 c = search needs
+byte-of-requires-5 : tie.Need-byte-of-requires-5
+byte-of-requires-5 c κs = search needs
 
-cast-t25 : tie.Need-cast-t25
-cast-t25 c = search needs
+byte-of-requires-6 : tie.Need-byte-of-requires-6
+byte-of-requires-6 c κs = search needs
 
-cast-t28 : tie.Need-cast-t28
-cast-t28 c = search needs
+byte-of-requires-7 : tie.Need-byte-of-requires-7
+byte-of-requires-7 c κs = search needs
 
-cast-t31 : tie.Need-cast-t31
-cast-t31 c = search needs
+byte-of-requires-8 : tie.Need-byte-of-requires-8
+byte-of-requires-8 c κs = search needs
 
-cast-t34 : tie.Need-cast-t34
-cast-t34 c = search needs
+byte-of-requires-9 : tie.Need-byte-of-requires-9
+byte-of-requires-9 c κs = search needs
 
-cast-t36 : tie.Need-cast-t36
-cast-t36 c = search needs
+byte-of-requires-10 : tie.Need-byte-of-requires-10
+byte-of-requires-10 c κs = search needs
+
+byte-of-requires-11 : tie.Need-byte-of-requires-11
+byte-of-requires-11 c κs = search needs
+
+byte-of-requires-12 : tie.Need-byte-of-requires-12
+byte-of-requires-12 c κs = search needs
 
 returns : tie.Need-returns
 unfolding recordOf
 returns c =
-    let e = c .before .before .before .before .before .before .before .before .before .before .parts-of .ensures in
-    simp (e .0, e .1, e .2, e .3)
+    let e = c .before .before .before .before .before .before .before .before .before .before .before .before .before .before .parts-of .ensures in
+    simp (
+      c .before .before .before .before .before .before .before .before .before .before .before .byte-of .ensures,
+      c .before .before .before .before .before .before .before .before .before .before .byte-of2 .ensures,
+      c .before .before .before .before .before .before .before .before .before .byte-of3 .ensures,
+      c .before .before .before .before .before .before .before .before .byte-of4 .ensures,
+      c .before .before .before .before .before .before .before .byte-of5 .ensures,
+      c .before .before .before .before .before .before .byte-of6 .ensures,
+      c .before .before .before .before .before .byte-of7 .ensures,
+      c .before .before .before .before .byte-of8 .ensures,
+      c .before .before .before .byte-of9 .ensures,
+      c .before .before .byte-of10 .ensures,
+      c .before .byte-of11 .ensures,
+      c .byte-of12 .ensures,
+      e .0,
+      e .1,
+      e .2,
+      e .3,
+    )
 
 pub record-bytes-spec : {M : Type 1} → statement M
 record-bytes-spec =
     tie.close
     (tie.spec
     parts-of-requires
-    cast-t7
-    cast-t9
-    cast-t12
-    cast-t14
-    cast-t17
-    cast-t20
-    cast-t23
-    cast-t25
-    cast-t28
-    cast-t31
-    cast-t34
-    cast-t36
+    cast-id
+    cast-named
+    byte-of-requires
+    byte-of-requires-2
+    byte-of-requires-3
+    byte-of-requires-4
+    byte-of-requires-5
+    byte-of-requires-6
+    byte-of-requires-7
+    byte-of-requires-8
+    byte-of-requires-9
+    byte-of-requires-10
+    byte-of-requires-11
+    byte-of-requires-12
     returns)

@@ -48,7 +48,7 @@ answer-at p fs blank = go fs
 
 -- ---- demand 2
 -- What line `a` of flow i says, exactly.
-pub record Demand2 (p : Platform) (fs : List Flow) (i : Flow) (a : Answer) : Type 0 where
+pub record VerdictLine (p : Platform) (fs : List Flow) (i : Flow) (a : Answer) : Type 0 where
   pub id : a .id ≡ i .id
   -- "A bounded flow gets the least whole number that solves its recurrence within its deadline."
   pub bounded : (r : ℕ) → ((n : ℕ) × (a .verdict ≡ Bounded r n)) ↔ (AllBounded p fs (verdict p fs) i × Bound (recurrenceOf p fs (verdict p fs) i) (limit i) r)
@@ -82,7 +82,7 @@ module _ (p : Platform) (fs : List Flow) (i : Flow) where
     (λ s. says-once p fs (verdict p fs) i w (verdict p fs i) v (verdict-says p fs i) s),
   )
 
-  verdict-exactly : Legal p fs → Demand2 p fs i (answerTo p fs i)
+  verdict-exactly : Legal p fs → VerdictLine p fs i (answerTo p fs i)
   verdict-exactly w = record {
     id = refl;
     bounded = λ r. (
@@ -109,7 +109,7 @@ module _ (p : Platform) (fs : List Flow) (i : Flow) where
 
 -- ---- demand 3
 -- What is said of the rounds in line `a` of flow i.
-pub record Demand3 (p : Platform) (fs : List Flow) (i : Flow) (a : Answer) : Type 0 where
+pub record RoundsLine (p : Platform) (fs : List Flow) (i : Flow) (a : Answer) : Type 0 where
   -- "the evaluations of its recurrence, starting at its unloaded latency, until a value repeats or passes the deadline;
   pub exactly : AllBounded p fs (verdict p fs) i → (n : ℕ) → (roundsIn (a .verdict) ≡ n) ↔ Rounds (recurrenceOf p fs (verdict p fs) i) (latency p i) (limit i) n
   -- zero for a flow that waits
@@ -165,7 +165,7 @@ module _ (p : Platform) (fs : List Flow) (i : Flow) where
     few (Late k) s = settled-few (LateAfter k) (said-allowed p fs (verdict p fs) i (LateAfter k) s)
     few (Waits id) s = ((λ h. refl), omega arith, omega arith)
 
-    rounds-counted : Demand3 p fs i (answerTo p fs i)
+    rounds-counted : RoundsLine p fs i (answerTo p fs i)
     rounds-counted =
         let says = verdict-says p fs i in
         let ts = termsOf p fs (verdict p fs) i in
@@ -221,8 +221,8 @@ module _ {p : Platform} {fs : List Flow} (w : Legal p fs) (k : ℕ) (l : k < len
 
 -- ---- the two demands, from the bytes on
 module _ (s : List ℕ) (p : Platform) (fs : List Flow) (e : readPlan s ≡ accepted p fs) (blank : Answer) (k : ℕ) (l : k < length fs) where
-  pub demand-2 : Demand2 p fs (flow fs k) (getD (answers p fs) k blank)
-  demand-2 = rw (answer-at p fs blank k l) (verdict-exactly p fs (flow fs k) (legal s p fs e))
+  pub verdict-line : VerdictLine p fs (flow fs k) (getD (answers p fs) k blank)
+  verdict-line = rw (answer-at p fs blank k l) (verdict-exactly p fs (flow fs k) (legal s p fs e))
 
-  pub demand-3 : Demand3 p fs (flow fs k) (getD (answers p fs) k blank)
-  demand-3 = rw (answer-at p fs blank k l) (rounds-counted p fs (flow fs k) (low-limit (legal s p fs e) k l))
+  pub rounds-line : RoundsLine p fs (flow fs k) (getD (answers p fs) k blank)
+  rounds-line = rw (answer-at p fs blank k l) (rounds-counted p fs (flow fs k) (low-limit (legal s p fs e) k l))
