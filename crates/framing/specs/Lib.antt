@@ -4,4 +4,5 @@ pub mod BigEndian
 pub mod Header
 pub mod Put
 pub mod Each
+pub mod Reader
 pub mod First

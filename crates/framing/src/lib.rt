@@ -3,3 +3,4 @@ pub mod big_endian;
 pub mod copy;
 pub mod header;
 pub mod numbers;
+pub mod reader;

@@ -8,8 +8,11 @@ use crate::Flow;
 use crate::Platform;
 use crate::table::Kind;
 use framing::numbers::four_at;
-use framing::numbers::one_at;
-use framing::numbers::two_at;
+use framing::reader::four;
+use framing::reader::one;
+use framing::reader::past;
+use framing::reader::reader_at;
+use framing::reader::two;
 
 // What the limits of a record's fields hang on.
 pub struct Limits {
@@ -21,13 +24,19 @@ pub(crate) fn platform_at(bytes: &[u8], at: usize) -> Platform
     requires { ⌜ at + 9 ≤ length (now bytes) ⌝ }
     ensures { λ r. ⌜ r ≡ platformAt (now (bytes .entry)) at ⌝ }
 {
+    let columns = past(reader_at(bytes, at), 3);
+    let rows = past(columns, 1);
+    let link = past(rows, 1);
+    let routing = past(link, 1);
+    let buffer = past(routing, 1);
+    let method = past(buffer, 1);
     Platform {
-        columns: one_at(bytes, at + 3),
-        rows: one_at(bytes, at + 4),
-        link: one_at(bytes, at + 5),
-        routing: one_at(bytes, at + 6),
-        buffer: one_at(bytes, at + 7),
-        method: one_at(bytes, at + 8),
+        columns: one(columns),
+        rows: one(rows),
+        link: one(link),
+        routing: one(routing),
+        buffer: one(buffer),
+        method: one(method),
     }
 }
 
@@ -35,15 +44,23 @@ pub(crate) fn flow_at(bytes: &[u8], at: usize) -> Flow
     requires { ⌜ at + 23 ≤ length (now bytes) ⌝ }
     ensures { λ r. ⌜ r ≡ flowAt (now (bytes .entry)) at ⌝ }
 {
+    let id = past(reader_at(bytes, at), 3);
+    let priority = past(id, 2);
+    let source = past(priority, 2);
+    let destination = past(source, 1);
+    let flits = past(destination, 1);
+    let period = past(flits, 2);
+    let deadline = past(period, 4);
+    let jitter = past(deadline, 4);
     Flow {
-        id: two_at(bytes, at + 3),
-        priority: two_at(bytes, at + 5),
-        source: one_at(bytes, at + 7),
-        destination: one_at(bytes, at + 8),
-        flits: two_at(bytes, at + 9),
-        period: four_at(bytes, at + 11),
-        deadline: four_at(bytes, at + 15),
-        jitter: four_at(bytes, at + 19),
+        id: two(id),
+        priority: two(priority),
+        source: one(source),
+        destination: one(destination),
+        flits: two(flits),
+        period: four(period),
+        deadline: four(deadline),
+        jitter: four(jitter),
     }
 }
 
