@@ -146,18 +146,14 @@ pub fn read(bytes: &[u8]) -> Reading
         if let Checked::Fault(number, place) = rest {
             break 'records refuse(number, place);
         }
-        let next = at + offset;
         match kind {
-            Kind::PlatformRecord => {
-                platform = platform_at(bytes, at);
-                at = next;
-            }
+            Kind::PlatformRecord => platform = platform_at(bytes, at),
             Kind::FlowRecord => {
                 flows[count] = flow_at(bytes, at);
                 count += 1;
-                at = next;
             }
             Kind::EndRecord => break 'records accept(platform, flows, count),
         }
+        at += offset;
     }
 }

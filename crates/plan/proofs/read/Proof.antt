@@ -2,6 +2,7 @@
 use Prim.Native.Nat.{_-_}
 use native.Mathlib.Omega.{arith}
 use mathlib.Core.Path.{sym, ap, _∙_}
+use mathlib.Core.Logic.{⊎-elim}
 use lib.ListN.{length, replicate}
 use Rattle.plan.specs.Table.{bodyLength, fieldCount}
 use Rattle.plan.proofs.Order.{framed, flow-room}
@@ -98,20 +99,11 @@ refuse-requires-3 c κs = search needs
 enum-told : tie.Need-enum-told Inv-loop μ-loop Inv-records μ-records
 enum-told c = search needs
 
-add-next : tie.Need-add-next Inv-loop μ-loop Inv-records μ-records
-add-next c = omega (arith, c .before .before .before .before .before .loop .inv .scan .whole, scanned-place (c .before .before .before .before .before .loop .inv .scan) (field-none (c .before .before .before .before .field-count .ensures) (c .before .before .before .if1 .left)))
-
 enum-told-2 : tie.Need-enum-told-2 Inv-loop μ-loop Inv-records μ-records
 enum-told-2 c = search needs
 
 platform-at-requires : tie.Need-platform-at-requires Inv-loop μ-loop Inv-records μ-records
 platform-at-requires c κs = omega (arith, c .before .before .before .before .before .before .before .loop .inv .scan .whole, ap bodyLength (c .enum-told2 .given .1))
-
-records-less : tie.Need-records-less Inv-loop μ-loop Inv-records μ-records
-records-less c = omega (arith, c .before .before .before .before .before .before .before .before .loop .inv .scan .whole, scanned-place (c .before .before .before .before .before .before .before .before .loop .inv .scan) (field-none (c .before .before .before .before .before .before .before .field-count .ensures) (c .before .before .before .before .before .before .if1 .left)))
-
-records-again : tie.Need-records-again Inv-loop μ-loop Inv-records μ-records
-records-again c = platform-taken (c .before .before .before .before .before .before .before .before .loop .inv) (field-none (c .before .before .before .before .before .before .before .field-count .ensures) (c .before .before .before .before .before .before .if1 .left)) (c .before .before .before .before .before .check-rest .ensures) (c .before .before .before .enum-told .given .1) (c .before .enum-told2 .given .1) (c .platform-at .ensures)
 
 enum-told-3 : tie.Need-enum-told-3 Inv-loop μ-loop Inv-records μ-records
 enum-told-3 c = search needs
@@ -128,17 +120,24 @@ array-set-from-flows c = flow-room (framed _ _ _ (c .before .before .before .bef
 add-count : tie.Need-add-count Inv-loop μ-loop Inv-records μ-records
 add-count c = omega (arith, c .before .before .before .before .before .before .before .before .loop .inv .sofar .few)
 
-records-less-2 : tie.Need-records-less-2 Inv-loop μ-loop Inv-records μ-records
-records-less-2 c = omega (arith, c .before .before .before .before .before .before .before .before .loop .inv .scan .whole, scanned-place (c .before .before .before .before .before .before .before .before .loop .inv .scan) (field-none (c .before .before .before .before .before .before .before .field-count .ensures) (c .before .before .before .before .before .before .if1 .left)))
-
-records-again-2 : tie.Need-records-again-2 Inv-loop μ-loop Inv-records μ-records
-records-again-2 c = flow-taken (c .before .before .before .before .before .before .before .before .loop .inv) (field-none (c .before .before .before .before .before .before .before .field-count .ensures) (c .before .before .before .before .before .before .if1 .left)) (c .before .before .before .before .before .check-rest .ensures) (c .before .before .before .enum-told .given .1) (c .before .enum-told3 .given .1) (c .flow-at .ensures)
-
 enum-told-4 : tie.Need-enum-told-4 Inv-loop μ-loop Inv-records μ-records
 enum-told-4 c = search needs
 
 accept-requires : tie.Need-accept-requires Inv-loop μ-loop Inv-records μ-records
 accept-requires c κs = (c .before .before .before .before .before .before .before .loop .inv .sofar .few, c .before .before .before .before .before .before .before .loop .inv .sofar .blank)
+
+add-at : tie.Need-add-at Inv-loop μ-loop Inv-records μ-records
+add-at c = omega (arith, c .before .before .before .before .before .before .loop .inv .scan .whole, scanned-place (c .before .before .before .before .before .before .loop .inv .scan) (field-none (c .before .before .before .before .before .field-count .ensures) (c .before .before .before .before .if1 .left)))
+
+records-less : tie.Need-records-less Inv-loop μ-loop Inv-records μ-records
+records-less c = omega (arith, c .before .before .before .before .before .before .loop .inv .scan .whole, scanned-place (c .before .before .before .before .before .before .loop .inv .scan) (field-none (c .before .before .before .before .before .field-count .ensures) (c .before .before .before .before .if1 .left)))
+
+records-again : tie.Need-records-again Inv-loop μ-loop Inv-records μ-records
+records-again c =
+    ⊎-elim
+    (λ w. rw (w .3, w .4, w .5) (platform-taken (c .before .before .before .before .before .before .loop .inv) (field-none (c .before .before .before .before .before .field-count .ensures) (c .before .before .before .before .if1 .left)) (c .before .before .before .check-rest .ensures) (c .before .enum-told .given .1) (w .1 .given .1) (w .2 .ensures)))
+    (λ w. rw (w .3, w .4, w .5) (flow-taken (c .before .before .before .before .before .before .loop .inv) (field-none (c .before .before .before .before .before .field-count .ensures) (c .before .before .before .before .if1 .left)) (c .before .before .before .check-rest .ensures) (c .before .enum-told .given .1) (w .1 .given .1) (w .2 .ensures)))
+    (c .match3 .came)
 
 returns : tie.Need-returns Inv-loop μ-loop Inv-records μ-records
 returns c = c .refuse .ensures ∙ frame-refuses (c .before .before .before .before .before .records .inv) (sym (c .before .before .before .before .check-frame .ensures) ∙ c .before .before .framed .given .1)
@@ -185,20 +184,18 @@ read-spec =
     enum-known-rest
     refuse-requires-3
     enum-told
-    add-next
     enum-told-2
     platform-at-requires
-    records-less
-    records-again
     enum-told-3
     flow-at-requires
     mul-flows
     array-set-from-flows
     add-count
-    records-less-2
-    records-again-2
     enum-told-4
     accept-requires
+    add-at
+    records-less
+    records-again
     returns
     returns-2
     returns-3
