@@ -6,6 +6,7 @@ pub mod Padding
 mod Order
 mod Scan
 mod Turns
+mod Recording
 mod Fields
 mod Growth
 mod Listed
