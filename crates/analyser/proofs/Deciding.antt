@@ -20,22 +20,22 @@ use Rattle.model.proofs.FlowLines.{answer-at, rounds-line}
 use Rattle.engine.proofs.Accepted.{plan-flows}
 use Rattle.reply.specs.Reply.{replyBytes}
 use Rattle.reply.proofs.Theorems.{reply-length, Fits}
-use Rattle.analyser.specs.Analysed.{refusal, acceptance}
+use Rattle.analyser.specs.Analysed.{refusedWith, acceptedWith}
 use Rattle.analyser.specs.Records.{answerLines, Tells, Holds}
 use Rattle.analyser.proofs.Replying.{Replied, replied-refused, replied-short, replied-analysed}
 use Rattle.analyser.proofs.Records.{line, end-at}
 
 module _ (bytes held : List ℕ) where
-  pub refused-returned : {number place : ℕ} → readPlan bytes ≡ refused number place → Replied bytes held (refusal number place) held
+  pub refused-returned : {number place : ℕ} → readPlan bytes ≡ refused number place → Replied bytes held (refusedWith number place) held
   unfolding refused
   refused-returned e = replied-refused bytes held (sym e) refl
 
   module _ (p : Platform) (fs : List Flow) (e : readPlan bytes ≡ accepted p fs) where
-    pub short-returned : length held < 16 * length fs + 3 → Replied bytes held (refusal 11 0) held
+    pub short-returned : length held < 16 * length fs + 3 → Replied bytes held (refusedWith 11 0) held
     unfolding accepted
     short-returned h = replied-short bytes held (sym e) refl h
 
-    pub reply-returned : 16 * length fs + 3 ≤ length held → Replied bytes held (acceptance (16 * length fs + 3)) (replyBytes (answers p fs) ++ drop (16 * length fs + 3) held)
+    pub reply-returned : 16 * length fs + 3 ≤ length held → Replied bytes held (acceptedWith (16 * length fs + 3)) (replyBytes (answers p fs) ++ drop (16 * length fs + 3) held)
     unfolding accepted
     reply-returned h = rw (plan-flows fs) at (replied-analysed bytes held (sym e) refl h)
 

@@ -1,4 +1,4 @@
--- The tender's three conditions of acceptance, of any bytes offered as a plan and any buffer lent for the reply.
+-- The tender's three conditions of acceptedWith, of any bytes offered as a plan and any buffer lent for the reply.
 -- `analyse` promises to return `returned bytes (length held)` and to leave `left bytes held` in the buffer that held `held`.
 -- The words of these statements: `Laid` and `Legal` of plan's specs, `Right` of model's specs/Rules, and this crate's specs/Records.
 use Prim.Native.Nat.{ℕ, _+_, _-_, _*_, _≤_, _<_}
@@ -14,7 +14,7 @@ use Rattle.plan.specs.declared.Reading.{Reading}
 use Rattle.plan.specs.Legal.{Legal, flow}
 use Rattle.plan.specs.Layout.{Headed, Laid}
 use Rattle.plan.specs.Reading.{accepted, refused, readPlan}
-use Rattle.plan.proofs.Answered.{Answer, accepts, refuses, answered}
+use Rattle.plan.proofs.Answered.{Lawful, accepts, refuses, answered}
 use Rattle.plan.proofs.Exact.{accepted-exactly}
 use Rattle.plan.proofs.Enough.{decided}
 use Rattle.recurrence.specs.Rounding.{up}
@@ -29,7 +29,7 @@ use Rattle.model.proofs.Verdicts.{right, right-once}
 use Rattle.model.proofs.FlowLines.{answer-at, verdict-line, rounds-line}
 use Rattle.reply.specs.Reply.{replyBytes}
 use Rattle.analyser.specs.declared.Returned.{Returned}
-use Rattle.analyser.specs.Analysed.{refusal, acceptance, returned, left}
+use Rattle.analyser.specs.Analysed.{refusedWith, acceptedWith, returned, left}
 use Rattle.analyser.specs.Records.{answerLines, idAt, verdictAt, namedAt, boundAt, roundsAt, Holds, Bytes}
 use Rattle.analyser.proofs.Replying.{Replied}
 use Rattle.analyser.proofs.Records.{tells-bounded, tells-late, tells-waits, tells-names, tells-only}
@@ -47,11 +47,11 @@ pub data Offered (bytes held : List ℕ) : Returned → List ℕ → Type 0 wher
   -- "Every byte string offered as a plan gets an analysis": right answers. "on success only the reply's own bytes differ"
   analysed :
       {p : Platform} {fs : List Flow} → Fine bytes held p fs → (answer : Flow → Verdict) → Right p fs answer →
-      Offered bytes held (acceptance (16 * length fs + 3)) (replyBytes (answerLines fs answer) ++ drop (16 * length fs + 3) held)
+      Offered bytes held (acceptedWith (16 * length fs + 3)) (replyBytes (answerLines fs answer) ++ drop (16 * length fs + 3) held)
   -- "or, only for a fault listed in document 01, a numbered refusal with its place": "On refusal the reply buffer is untouched".
-  sent-back : (number place : ℕ) → readPlan bytes ≡ refused number place → (1 ≤ number) × (number ≤ 10) → place ≤ length bytes → Offered bytes held (refusal number place) held
+  sent-back : (number place : ℕ) → readPlan bytes ≡ refused number place → (1 ≤ number) × (number ≤ 10) → place ≤ length bytes → Offered bytes held (refusedWith number place) held
   -- "11 | the reply buffer is too short | 0"
-  too-short : (p : Platform) (fs : List Flow) → Laid bytes p fs → Legal p fs → length held < 16 * length fs + 3 → Offered bytes held (refusal 11 0) held
+  too-short : (p : Platform) (fs : List Flow) → Laid bytes p fs → Legal p fs → length held < 16 * length fs + 3 → Offered bytes held (refusedWith 11 0) held
 
 -- ==== demand 2: what record k of a buffer says of flow i, where `answer` are the answers to all flows of the plan
 pub record Figures (p : Platform) (fs : List Flow) (answer : Flow → Verdict) (i : Flow) (is : List ℕ) (k : ℕ) : Type 0 where
@@ -109,7 +109,7 @@ module _ (bytes held : List ℕ) where
           (rw (← right-lines p fs legal (verdict p fs) (right p fs)) at (reply-returned bytes held p fs e (omega arith)))
           (analysed (record { laid = laid; legal = legal; room = omega arith }) (verdict p fs) (right p fs))
 
-      go : (r : Reading) → readPlan bytes ≡ r → Answer bytes r → Offered bytes held (returned bytes (length held)) (left bytes held)
+      go : (r : Reading) → readPlan bytes ≡ r → Lawful bytes r → Offered bytes held (returned bytes (length held)) (left bytes held)
       go r e (accepts p fs laid legal) = by-room p fs laid legal e (decLt (length held) (16 * length fs + 3))
       go r e (refuses number place n h) = settled (refused-returned bytes held e) (sent-back number place e n h)
 
@@ -117,11 +117,11 @@ module _ (bytes held : List ℕ) where
     is-plan : readPlan bytes ≡ accepted p fs
     is-plan = accepted-exactly bytes p fs .1 (f .laid, f .legal)
 
-    replies : Replied bytes held (acceptance (16 * length fs + 3)) (replyBytes (answers p fs) ++ drop (16 * length fs + 3) held)
+    replies : Replied bytes held (acceptedWith (16 * length fs + 3)) (replyBytes (answers p fs) ++ drop (16 * length fs + 3) held)
     replies = reply-returned bytes held p fs is-plan (f .room)
 
     -- "Acceptance returns number 0 and the reply's length": 16n + 3 bytes for n flows.
-    pub reply-size : returned bytes (length held) ≡ acceptance (16 * length fs + 3)
+    pub reply-size : returned bytes (length held) ≡ acceptedWith (16 * length fs + 3)
     reply-size = sym (replies .0)
 
     -- What is written is read back: the numbers in the records are the answers'. A longer buffer keeps its further bytes.

@@ -17,14 +17,14 @@ use Rattle.mesh.specs.Mesh.{hops, along, xy}
 use Rattle.mesh.specs.Shared.{on, domain, first-from}
 use Rattle.recurrence.specs.Rounding.{up}
 use Rattle.recurrence.specs.Sums.{sumOver}
-use Rattle.recurrence.specs.Outcome.{outcomeFrom, outcome}
+use Rattle.recurrence.specs.ComesTo.{comesToFrom, comesTo}
 use Rattle.model.specs.Latency.{methodUsed, latency}
 use Rattle.model.specs.Interference.{directFor, indirectFor, comesBefore, those}
 use Rattle.model.specs.Delays.{allowance, weight, term, terms}
 use Rattle.model.specs.Verdicts.{highest, judged, judge, verdictBelow, verdict, answers}
 use Rattle.reply.specs.Reply.{recordOf}
 use Rattle.analyser.specs.declared.Returned.{Returned}
-use Rattle.analyser.specs.Analysed.{refusal, acceptance, returnedBy, leftBy, returned, left}
+use Rattle.analyser.specs.Analysed.{refusedWith, acceptedWith, returnedBy, leftBy, returned, left}
 use Rattle.analyser.specs.Records.{idAt, verdictAt, boundAt, roundsAt}
 use Rattle.analyser.proofs.Demands.{Offered, promised-exactly}
 
@@ -56,18 +56,18 @@ row bytes room result holds = record { bytes = bytes; room = room; result = resu
 
 abbrev table : List Row
 table =
-    row P 51 (acceptance 51) reply-of-P  -- "reply of 50 / 51 bytes | | refused 11 / accepted"
-    ∷ row P 50 (refusal 11 0) (buffer 50)
-    ∷ row P 54 (acceptance 51) (reply-of-P ++ buffer 3)  -- "A longer buffer keeps its further bytes."
-    ∷ row no-flows 3 (acceptance 3) (0x7F ∷ 0x00 ∷ 0x00 ∷ [])  -- "no flows | | reply 7F 0000"
-    ∷ row no-flows 2 (refusal 11 0) (buffer 2)
-    ∷ row (take 78 P) 60 (refusal 1 78) (buffer 60)  -- "end record missing | | refused 1 at 78"
-    ∷ row (set P 7 65) 60 (refusal 5 7) (buffer 60)  -- "buffer 65 | | refused 5 at 7"
-    ∷ row (set P 7 65) 0 (refusal 5 7) []  -- "Then 10, then 11."
+    row P 51 (acceptedWith 51) reply-of-P  -- "reply of 50 / 51 bytes | | refused 11 / accepted"
+    ∷ row P 50 (refusedWith 11 0) (buffer 50)
+    ∷ row P 54 (acceptedWith 51) (reply-of-P ++ buffer 3)  -- "A longer buffer keeps its further bytes."
+    ∷ row no-flows 3 (acceptedWith 3) (0x7F ∷ 0x00 ∷ 0x00 ∷ [])  -- "no flows | | reply 7F 0000"
+    ∷ row no-flows 2 (refusedWith 11 0) (buffer 2)
+    ∷ row (take 78 P) 60 (refusedWith 1 78) (buffer 60)  -- "end record missing | | refused 1 at 78"
+    ∷ row (set P 7 65) 60 (refusedWith 5 7) (buffer 60)  -- "buffer 65 | | refused 5 at 7"
+    ∷ row (set P 7 65) 0 (refusedWith 5 7) []  -- "Then 10, then 11."
     ∷ []
 
 replies : (map (λ r. returned (r .bytes) (r .room)) table ≡ map (λ r. r .result) table) × (map (λ r. left (r .bytes) (buffer (r .room))) table ≡ map (λ r. r .holds) table)
-unfolding tagOf headerAt taggedAt frameAt fieldsFrom clashAt tailAt restAt _then_ bodyAt recordAt accepted refused after records readPlan _when_else_ hops along xy on domain first-from up sumOver outcomeFrom outcome methodUsed latency directFor indirectFor comesBefore those allowance weight term terms highest judged judge verdictBelow verdict answers recordOf each returnedBy leftBy
+unfolding tagOf headerAt taggedAt frameAt fieldsFrom clashAt tailAt restAt _then_ bodyAt recordAt accepted refused after records readPlan _when_else_ hops along xy on domain first-from up sumOver comesToFrom comesTo methodUsed latency directFor indirectFor comesBefore those allowance weight term terms highest judged judge verdictBelow verdict answers recordOf each returnedBy leftBy
 replies = (refl, refl)
 
 -- "These must be turned down": what P's offer comes to, with a buffer of 51 bytes, is none of what these programs give.
@@ -85,7 +85,7 @@ record NotWrong (r : Returned) (is : List ℕ) : Type 0 where
 wrong-excluded : (r : Returned) (is : List ℕ) → Offered P (buffer 51) r is → NotWrong r is
 wrong-excluded r is o =
     let (e, f) = promised-exactly P (buffer 51) r is .1 o in
-    let a : r ≡ acceptance 51 = e ∙ ap (λ l. getD l 0 (refusal 0 0)) (replies .0) in
+    let a : r ≡ acceptedWith 51 = e ∙ ap (λ l. getD l 0 (refusedWith 0 0)) (replies .0) in
     let b : is ≡ reply-of-P = f ∙ ap (λ l. getD l 0 []) (replies .1) in
     rw (a, b)
     (record {

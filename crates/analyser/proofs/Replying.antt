@@ -1,4 +1,4 @@
--- `analyse` returns and leaves what is defined, by what was read: a refusal, a plan whose reply does not fit, or one whose reply does.
+-- `analyse` returns and leaves what is defined, by what was read: a refusedWith, a plan whose reply does not fit, or one whose reply does.
 use Prim.Native.Nat.{ℕ, _≤_, _<_}
 use mathlib.Core.Path.{_≡_, refl, ap, _∙_}
 use mathlib.Core.List.{List, _++_}
@@ -13,23 +13,23 @@ use Rattle.engine.specs.Answers.{answerArray}
 use Rattle.engine.proofs.Accepted.{reading-scene, first-answers}
 use Rattle.reply.specs.Reply.{replyBytes}
 use Rattle.analyser.specs.declared.Returned.{Returned}
-use Rattle.analyser.specs.Analysed.{needs, replyTo, refusal, acceptance, returnedBy, leftBy, returned, left}
+use Rattle.analyser.specs.Analysed.{needs, replyTo, refusedWith, acceptedWith, returnedBy, leftBy, returned, left}
 
 -- What the contract says of the result and of the bytes left in the buffer.
 abbrev pub Replied : List ℕ → List ℕ → Returned → List ℕ → Type 0
 Replied bytes held r is = (r ≡ returned bytes (length held)) × (is ≡ left bytes held)
 
 module _ (bytes held : List ℕ) {r : Reading} (e : r ≡ readPlan bytes) where
-  pub replied-refused : {number place : ℕ} → r .outcome ≡ Refused number place → Replied bytes held (refusal number place) held
+  pub replied-refused : {number place : ℕ} → r .outcome ≡ Refused number place → Replied bytes held (refusedWith number place) held
   unfolding returnedBy leftBy
   replied-refused o = rw (← e, o) (refl, refl)
 
   module _ (o : r .outcome ≡ Accepted) where
-    pub replied-short : length held < needs (r .plan) → Replied bytes held (refusal 11 0) held
+    pub replied-short : length held < needs (r .plan) → Replied bytes held (refusedWith 11 0) held
     unfolding returnedBy leftBy _when_else_
     replied-short h = rw (← e, o, lt-ltb (length held) (needs (r .plan)) h) (refl, refl)
 
-    pub replied-analysed : needs (r .plan) ≤ length held → Replied bytes held (acceptance (needs (r .plan))) (replyTo (r .plan) ++ drop (needs (r .plan)) held)
+    pub replied-analysed : needs (r .plan) ≤ length held → Replied bytes held (acceptedWith (needs (r .plan))) (replyTo (r .plan) ++ drop (needs (r .plan)) held)
     unfolding returnedBy leftBy _when_else_
     replied-analysed h = rw (← e, o, le-ltb (length held) (needs (r .plan)) h) (refl, refl)
 
@@ -37,7 +37,7 @@ module _ (bytes held : List ℕ) {r : Reading} (e : r ≡ readPlan bytes) where
         needs (r .plan) ≤ length held → {list : List Answer} {is : List ℕ} →
         list ≡ answerArray (r .plan .platform) (take (r .plan .count) (r .plan .flows)) →
         is ≡ replyBytes (take (r .plan .count) list) ++ drop (needs (r .plan)) held →
-        Replied bytes held (acceptance (needs (r .plan))) is
+        Replied bytes held (acceptedWith (needs (r .plan))) is
     replied-written h a w =
         let (number, all) = replied-analysed h in
         (number, w ∙ ap (λ (x : List Answer). replyBytes x ++ drop (needs (r .plan)) held) (first-answers (r .plan) (reading-scene bytes e o) a) ∙ all)

@@ -21,16 +21,16 @@ abbrev pub replyTo : Plan → List ℕ
 replyTo plan = replyBytes (answers (plan .platform) (take (plan .count) (plan .flows)))
 
 -- "A refusal returns its number and place .. Acceptance returns number 0 and the reply's length."
-abbrev pub refusal : ℕ → ℕ → Returned
-refusal number place = record { number = number; value = place }
+abbrev pub refusedWith : ℕ → ℕ → Returned
+refusedWith number place = record { number = number; value = place }
 
-abbrev pub acceptance : ℕ → Returned
-acceptance long = record { number = 0; value = long }
+abbrev pub acceptedWith : ℕ → Returned
+acceptedWith long = record { number = 0; value = long }
 
 -- "Then 10, then 11": the buffer's length is looked at last. "11 | the reply buffer is too short | 0"
 unfoldable pub returnedBy : Outcome → Plan → ℕ → Returned
-returnedBy (Refused number place) plan room = refusal number place
-returnedBy Accepted plan room = refusal 11 0 when ltb room (needs plan) else acceptance (needs plan)
+returnedBy (Refused number place) plan room = refusedWith number place
+returnedBy Accepted plan room = refusedWith 11 0 when ltb room (needs plan) else acceptedWith (needs plan)
 
 -- A refusal: "the whole reply buffer holds what it held before". "A longer buffer keeps its further bytes."
 unfoldable pub leftBy : Outcome → Plan → List ℕ → List ℕ

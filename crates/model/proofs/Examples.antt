@@ -10,7 +10,7 @@ use Rattle.mesh.specs.Mesh.{hops, along, xy}
 use Rattle.mesh.specs.Shared.{on, domain, first-from}
 use Rattle.recurrence.specs.Rounding.{up}
 use Rattle.recurrence.specs.Sums.{sumOver}
-use Rattle.recurrence.specs.Outcome.{outcomeFrom, outcome}
+use Rattle.recurrence.specs.ComesTo.{comesToFrom, comesTo}
 use Rattle.model.specs.declared.Method.the-variants.{SB, XLWX, IBN}
 use Rattle.model.specs.declared.Verdict.{Verdict}
 use Rattle.model.specs.declared.Verdict.the-variants.{Bounded, Late, Waits}
@@ -72,6 +72,10 @@ buffers = flow 1 1 4 5 20 300 300 0 ∷ flow 2 2 0 5 30 1000 1000 0 ∷ flow 3 3
 abbrev both-sides : List Flow
 both-sides = flow 1 1 0 1 8 100 100 0 ∷ flow 2 2 4 5 18 100 100 0 ∷ flow 3 3 0 5 44 105 105 0 ∷ flow 4 4 2 3 28 2000 2000 0 ∷ []
 
+-- Flow 1 delays flow 2 and flow 3 themselves. C is 10, 50 and 40, flow 2's bound 60, and 110 passes its period.
+abbrev no-order : List Flow
+no-order = flow 1 1 3 5 7 1000 1000 0 ∷ flow 2 2 0 5 44 100 100 0 ∷ flow 3 3 1 4 36 1000 1000 0 ∷ []
+
 abbrev table : List Example
 table =
     -- 13; 13 + 13; 24 + 13 + 13, and flow 1, direct for flow 3 too, is no part of flow 2's weight
@@ -91,6 +95,10 @@ table =
     ∷ example (line 10 3) both-sides (Bounded 10 1 ∷ Bounded 20 1 ∷ Bounded 80 2 ∷ Bounded 150 3 ∷ [])
     -- flow 1 shares links with flow 2 and with flow 3: it delays flow 3 itself and is no part of flow 2's weight, 40 + 10 + 50
     ∷ example (line 1 2) (flow 1 1 3 5 7 1000 1000 0 ∷ flow 2 2 0 5 44 1000 1000 0 ∷ flow 3 3 1 4 36 1000 1000 0 ∷ []) (Bounded 10 1 ∷ Bounded 60 2 ∷ Bounded 100 2 ∷ [])
+    -- "Taking XLWX as never below SB, or IBN as never above XLWX": by SB and IBN flow 2 is allowed 60 - 50 and has two packets, by XLWX it is allowed nothing
+    ∷ example (line 1 1) no-order (Bounded 10 1 ∷ Bounded 60 2 ∷ Bounded 150 3 ∷ [])
+    ∷ example (line 1 2) no-order (Bounded 10 1 ∷ Bounded 60 2 ∷ Bounded 100 2 ∷ [])
+    ∷ example (line 1 3) no-order (Bounded 10 1 ∷ Bounded 60 2 ∷ Bounded 150 3 ∷ [])
     -- a chain: flow 2 weighs 20 + 10 for flow 3, and is downstream of flow 3 for flow 4 with its C of 20, not with that weight: 40 + 30 + 20
     ∷ example (mesh 8 1 1 0 1 2) (flow 1 1 5 7 7 100 100 0 ∷ flow 2 2 3 6 16 200 200 0 ∷ flow 3 3 0 4 25 1000 1000 0 ∷ flow 4 4 1 3 37 1000 1000 0 ∷ []) (Bounded 10 1 ∷ Bounded 30 2 ∷ Bounded 60 2 ∷ Bounded 90 2 ∷ [])
     -- "a window of 400 with period 400 holds one packet, 401 two": C is 300 and 301, and flow 1 weighs 100
@@ -106,5 +114,5 @@ table =
     ∷ []
 
 examples : map (λ e. map (λ a. a .verdict) (answers (e .platform) (e .flows))) table ≡ map (λ e. e .verdicts) table
-unfolding hops along xy on domain first-from up sumOver outcomeFrom outcome methodUsed _when_else_ latency directFor indirectFor comesBefore those allowance weight term terms highest judged judge verdictBelow verdict answers
+unfolding hops along xy on domain first-from up sumOver comesToFrom comesTo methodUsed _when_else_ latency directFor indirectFor comesBefore those allowance weight term terms highest judged judge verdictBelow verdict answers
 examples = refl

@@ -18,7 +18,7 @@ use Rattle.mesh.specs.Mesh.{hops, along, xy}
 use Rattle.mesh.specs.Shared.{on, domain, first-from}
 use Rattle.recurrence.specs.Rounding.{up}
 use Rattle.recurrence.specs.Sums.{sumOver}
-use Rattle.recurrence.specs.Outcome.{outcomeFrom, outcome}
+use Rattle.recurrence.specs.ComesTo.{comesToFrom, comesTo}
 use Rattle.model.specs.declared.Verdict.{Verdict}
 use Rattle.model.specs.declared.Verdict.the-variants.{Bounded, Late, Waits}
 use Rattle.model.specs.declared.Answer.{Answer}
@@ -97,5 +97,5 @@ resultsIn bytes flow = linesOf flow (answered (readPlan bytes .outcome) (readPla
 
 -- Each row's bytes are accepted, and its flow has one line in the answer, with the row's result.
 pub figures : map (λ r. resultsIn (r .bytes) (r .flow)) table ≡ map (λ r. r .result ∷ []) table
-unfolding tagOf headerAt taggedAt frameAt fieldsFrom clashAt tailAt restAt _then_ bodyAt recordAt accepted refused after records readPlan _when_else_ hops along xy on domain first-from up sumOver outcomeFrom outcome methodUsed latency directFor indirectFor comesBefore those allowance weight term terms highest judged judge verdictBelow verdict answers answered linesOf
+unfolding tagOf headerAt taggedAt frameAt fieldsFrom clashAt tailAt restAt _then_ bodyAt recordAt accepted refused after records readPlan _when_else_ hops along xy on domain first-from up sumOver comesToFrom comesTo methodUsed latency directFor indirectFor comesBefore those allowance weight term terms highest judged judge verdictBelow verdict answers answered linesOf
 figures = refl

@@ -61,7 +61,7 @@ pub record VerdictLine (p : Platform) (fs : List Flow) (i : Flow) (a : Answer) :
   -- Each verdict with its rounds.
   pub exactly : (v : Verdict) → (a .verdict ≡ v) ↔ Says p fs (verdict p fs) i v
 
--- The outcome of the recurrence of a flow that does not wait.
+-- What the recurrence of a flow that does not wait comes to.
 abbrev Settles : Platform → List Flow → Flow → Verdict → Type 0
 Settles p fs i v = (o : Settled) × (v ≡ settledVerdict o) × Allowed (recurrenceOf p fs (verdict p fs) i) (latency p i) (limit i) o
 

@@ -16,8 +16,8 @@ use Rattle.plan.specs.Legal.{Distinct, Legal, flow}
 use Rattle.recurrence.specs.declared.Settled.{Settled}
 use Rattle.recurrence.specs.declared.Settled.the-variants.{Bounded as BoundedAt, Late as LateAfter}
 use Rattle.recurrence.specs.Verdicts.{Allowed}
-use Rattle.recurrence.specs.Outcome.{outcome}
-use Rattle.recurrence.proofs.Theorems.{outcome-allowed, allowed-alike}
+use Rattle.recurrence.specs.ComesTo.{comesTo}
+use Rattle.recurrence.proofs.Theorems.{comes-to-allowed, allowed-alike}
 use Rattle.model.specs.declared.Verdict.{Verdict}
 use Rattle.model.specs.declared.Verdict.the-variants.{Bounded, Late, Waits}
 use Rattle.model.specs.Links.{pairOf}
@@ -103,8 +103,8 @@ module _ (p : Platform) (fs : List Flow) (answer : Flow → Verdict) (i : Flow) 
   judged-says none (a, b) =
       says-settled
       (λ k s. b k (s .inside) (stuck-test k s))
-      (outcome (recurrenceOf p fs answer i) (latency p i) (limit i))
-      (outcome-allowed (latency p i) (limit i) (termsOf p fs answer i))
+      (comesTo (recurrenceOf p fs answer i) (latency p i) (limit i))
+      (comes-to-allowed (latency p i) (limit i) (termsOf p fs answer i))
   judged-says (some j) (a, b, c) =
       ⊎-elim
       (λ e. let z : _≡_ {A = ℕ} 0 1 = cc in absurd (omega arith))

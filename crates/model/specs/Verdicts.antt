@@ -10,7 +10,7 @@ use Rattle.recurrence.specs.declared.Term.{Term}
 use Rattle.recurrence.specs.declared.Settled.{Settled}
 use Rattle.recurrence.specs.declared.Settled.the-variants.{Bounded as BoundedAt, Late as LateAfter}
 use Rattle.recurrence.specs.Recurrence.{rightSide, total}
-use Rattle.recurrence.specs.Outcome.{outcome}
+use Rattle.recurrence.specs.ComesTo.{comesTo}
 use Rattle.model.specs.Latency.{methodUsed, latency, limit}
 use Rattle.model.specs.Interference.{directFor, those}
 use Rattle.model.specs.Delays.{terms}
@@ -79,7 +79,7 @@ settledVerdict (LateAfter k) = Late k
 -- "Waits .. comes first, even if C exceeds the deadline"; otherwise the recurrence decides.
 unfoldable pub judged : Platform → List Flow → (Flow → Verdict) → Flow → Option Flow → Verdict
 judged p fs answer i (some j) = Waits (j .id)
-judged p fs answer i none = settledVerdict (outcome (recurrenceOf p fs answer i) (latency p i) (limit i))
+judged p fs answer i none = settledVerdict (comesTo (recurrenceOf p fs answer i) (latency p i) (limit i))
 
 unfoldable pub judge : Platform → List Flow → (Flow → Verdict) → Flow → Verdict
 judge p fs answer i = judged p fs answer i (highest none (those (holdsUp p answer i) fs))

@@ -26,9 +26,9 @@ use Rattle.plan.proofs.Growth.{longer, each-more, legal-more}
 use Rattle.plan.proofs.Listed.{Numbered, Listed, fault-listed}
 
 -- what a reading of the bytes may come to
-pub data Answer (s : List ℕ) : Reading → Type 0 where
-  accepts : (p : Platform) (fs : List Flow) → Laid s p fs → Legal p fs → Answer s (accepted p fs)
-  refuses : (number place : ℕ) → Numbered number → place ≤ length s → Answer s (refused number place)
+pub data Lawful (s : List ℕ) : Reading → Type 0 where
+  accepts : (p : Platform) (fs : List Flow) → Laid s p fs → Legal p fs → Lawful s (accepted p fs)
+  refuses : (number place : ℕ) → Numbered number → place ≤ length s → Lawful s (refused number place)
 
 -- ---- the records in front of the one at `at`
 record Front (s : List ℕ) (p : Platform) (fs : List Flow) (at : ℕ) : Type 0 where
@@ -100,9 +100,9 @@ module _ {s : List ℕ} {p : Platform} {fs : List Flow} {at : ℕ} (w : Stands s
 -- ---- the reading, record by record
 module _ (s : List ℕ) where
   abbrev From : ℕ → Type 0
-  From turns = (p : Platform) (fs : List Flow) (at : ℕ) → Stands s p fs at → at ≤ length s → Answer s (records turns s at p fs)
+  From turns = (p : Platform) (fs : List Flow) (at : ℕ) → Stands s p fs at → at ≤ length s → Lawful s (records turns s at p fs)
 
-  by-record : (turns : ℕ) → From turns → (p : Platform) (fs : List Flow) (at : ℕ) → Stands s p fs at → at ≤ length s → (c : Checked) → recordAt s at p fs ≡ c → Answer s (records (suc turns) s at p fs)
+  by-record : (turns : ℕ) → From turns → (p : Platform) (fs : List Flow) (at : ℕ) → Stands s p fs at → at ≤ length s → (c : Checked) → recordAt s at p fs ≡ c → Lawful s (records (suc turns) s at p fs)
   by-record turns more p fs at w h (Fault number pl) e =
       let l = subst (Listed s) e (fault-listed s at p fs h) in
       rw (fault-ends s at p fs turns e) (refuses number pl (l .0) (l .1))
@@ -122,6 +122,6 @@ module _ (s : List ℕ) where
   from (suc turns) p fs at w h = by-record turns (from turns) p fs at w h (recordAt s at p fs) refl
 
   -- "Every byte string offered as a plan gets an analysis or, only for a fault listed in document 01, a numbered refusal with its place"
-  pub answered : Answer s (readPlan s)
+  pub answered : Lawful s (readPlan s)
   unfolding readPlan
   answered = from (suc (length s)) blankPlatform [] 0 (start refl refl) (omega arith)

@@ -30,7 +30,7 @@ use Rattle.plan.proofs.Order.{record-rest, platform-leads, flow-leads, 
 use Rattle.plan.proofs.Fields.{allowed-passed, legal-platform, legal-flow}
 use Rattle.plan.proofs.Growth.{found-none}
 use Rattle.plan.proofs.Listed.{Numbered}
-use Rattle.plan.proofs.Answered.{Answer, accepts, refuses, answered}
+use Rattle.plan.proofs.Answered.{Lawful, accepts, refuses, answered}
 
 -- ---- a record in its place, with the table's tag and length and its body there, has a frame without fault
 module _ (s : List ℕ) (at : ℕ) (kind : Kind) (count : ℕ) where
@@ -123,7 +123,7 @@ same-plan p q fs gs e =
 accepted-laid : (s : List ℕ) (p : Platform) (fs : List Flow) → readPlan s ≡ accepted p fs → Laid s p fs × Legal p fs
 accepted-laid s p fs = go (readPlan s) (answered s)
   where
-    go : (r : Reading) → Answer s r → r ≡ accepted p fs → Laid s p fs × Legal p fs
+    go : (r : Reading) → Lawful s r → r ≡ accepted p fs → Laid s p fs × Legal p fs
     go r (accepts q gs laid legal) e = let k = same-plan q p gs fs e in rw (← k .0, ← k .1) (laid, legal)
     go r (refuses number pl n h) e = absurd (refused-never number pl p fs e)
 
@@ -132,7 +132,7 @@ pub refusal-listed : (s : List ℕ) (number pl : ℕ) → readPlan s ≡ refused
 unfolding refused
 refusal-listed s number pl = go (readPlan s) (answered s)
   where
-    go : (r : Reading) → Answer s r → r ≡ refused number pl → Numbered number × (pl ≤ length s)
+    go : (r : Reading) → Lawful s r → r ≡ refused number pl → Numbered number × (pl ≤ length s)
     go r (accepts q gs laid legal) e = absurd (refused-never number pl q gs (sym e))
     go r (refuses n at w h) e = let o : Refused n at ≡ Refused number pl = ap (λ (x : Reading). x .outcome) e in
         let a : n ≡ number = cc in
@@ -147,7 +147,7 @@ pub accepted-plan : (s : List ℕ) → readPlan s .outcome ≡ Accepted → (p :
 unfolding refused
 accepted-plan s = go (readPlan s) (answered s)
   where
-    go : (r : Reading) → Answer s r → r .outcome ≡ Accepted → (p : Platform) × (fs : List Flow) × (r ≡ accepted p fs)
+    go : (r : Reading) → Lawful s r → r .outcome ≡ Accepted → (p : Platform) × (fs : List Flow) × (r ≡ accepted p fs)
     go r (accepts p fs laid legal) e = (p, fs, refl)
     go r (refuses number pl n h) e = let z : _≡_ {A = ℕ} 0 1 = cc in absurd (omega arith)
 

@@ -8,7 +8,7 @@ use lib.Dec.{ltb}
 use borrow.Author.Tests.{ltb-false, leb-false, le-ltb, lt-leb}
 use Rattle.framing.specs.Numbers.{bytesOf, numberAt}
 use Rattle.framing.specs.First.{_when_else_}
-use Rattle.plan.specs.Table.{platformFields, flowFields, width, lowest, highest}
+use Rattle.plan.specs.Table.{platformFields, flowFields, width, lowestOf, highestOf}
 use Rattle.plan.specs.Values.{platformAt, flowAt, limitsAt}
 use Rattle.plan.specs.Checks.{above, fieldsFrom}
 use Rattle.plan.specs.Legal.{LegalPlatform, LegalFlow}
@@ -31,7 +31,7 @@ Below l UpToPeriod v = v ≤ l .period
 abbrev pub Allowed : List ℕ → ℕ → Limits → ℕ → List Field → Type 0
 Allowed s at l offset [] = Unit {0}
 Allowed s at l offset (f ∷ fs) =
-    ((lowest f ≤ numberAt s (width f) (at + offset)) × Below l (highest f) (numberAt s (width f) (at + offset)))
+    ((lowestOf f ≤ numberAt s (width f) (at + offset)) × Below l (highestOf f) (numberAt s (width f) (at + offset)))
     × Allowed s at l (offset + bytesOf (width f)) fs
 
 pub neither : (a b : Bool) → (a || b) ≡ false → (a ≡ false) × (b ≡ false)
@@ -55,15 +55,15 @@ module _ (s : List ℕ) (at : ℕ) (kind : Kind) (l : Limits) where
   passed-allowed offset (f ∷ fs) e =
       let v = numberAt s (width f) (at + offset) in
       let t = passed _ _ _ _ e in
-      let n = neither (ltb v (lowest f)) (above l (highest f) v) (t .0) in
-      ((ltb-false v (lowest f) (n .0), not-above l (highest f) v (n .1)), passed-allowed (offset + bytesOf (width f)) fs (t .1))
+      let n = neither (ltb v (lowestOf f)) (above l (highestOf f) v) (t .0) in
+      ((ltb-false v (lowestOf f) (n .0), not-above l (highestOf f) v (n .1)), passed-allowed (offset + bytesOf (width f)) fs (t .1))
 
   pub allowed-passed : (offset : ℕ) (fs : List Field) → Allowed s at l offset fs → fieldsFrom s at kind l offset fs ≡ Passed kind
   unfolding fieldsFrom _when_else_
   allowed-passed offset [] w = refl
   allowed-passed offset (f ∷ fs) (w, ws) =
       let v = numberAt s (width f) (at + offset) in
-      rw (le-ltb v (lowest f) (w .0), below-not l (highest f) v (w .1)) (allowed-passed (offset + bytesOf (width f)) fs ws)
+      rw (le-ltb v (lowestOf f) (w .0), below-not l (highestOf f) v (w .1)) (allowed-passed (offset + bytesOf (width f)) fs ws)
 
 -- the two tables, line by line
 module _ (s : List ℕ) (at : ℕ) where

@@ -10,7 +10,7 @@ use borrow.Author.Tests.{ltb-false}
 use Rattle.framing.specs.First.{_when_else_}
 use Rattle.framing.specs.Numbers.{bytesOf}
 use Rattle.framing.specs.Header.{tagAt}
-use Rattle.plan.specs.Table.{tagOf, bodyLength, fieldsOf, width, refusal}
+use Rattle.plan.specs.Table.{tagOf, bodyLength, fieldsOf, width, refusalOf}
 use Rattle.plan.specs.Values.{flowAt, limitsAt}
 use Rattle.plan.specs.Checks.{headerAt, taggedAt, frameAt, fieldsFrom, clashAt, tailAt, restAt, _then_, bodyAt, recordAt}
 use Rattle.plan.specs.declared.Platform.{Platform}
@@ -32,7 +32,7 @@ Numbered number = (1 ≤ number) × (number ≤ 10)
 
 abbrev numbered : List Field → Type 0
 numbered [] = Unit {0}
-numbered (f ∷ fs) = Numbered (refusal f) × numbered fs
+numbered (f ∷ fs) = Numbered (refusalOf f) × numbered fs
 
 five : Numbered 5
 five = (omega arith, omega arith)
@@ -60,7 +60,7 @@ module _ (s : List ℕ) where
   fields : (at : ℕ) (kind : Kind) (l : Limits) (offset : ℕ) (fs : List Field) → numbered fs → at + offset + sizeOf fs ≤ length s → Listed (fieldsFrom s at kind l offset fs)
   unfolding fieldsFrom
   fields at kind l offset [] n h = tt
-  fields at kind l offset (f ∷ fs) (n, ns) h = chain _ (refusal f) (at + offset) _ n (omega arith) (fields at kind l (offset + bytesOf (width f)) fs ns (omega arith))
+  fields at kind l offset (f ∷ fs) (n, ns) h = chain _ (refusalOf f) (at + offset) _ n (omega arith) (fields at kind l (offset + bytesOf (width f)) fs ns (omega arith))
 
   module _ (at : ℕ) where
     tagged : (t : Tag) (count : ℕ) → at + 3 ≤ length s → Listed (taggedAt s at t count)

@@ -9,7 +9,7 @@ use lib.ListN.{length, getD, drop, drop-of-length-le}
 use lib.Seq.{drop-cons}
 use Rattle.framing.specs.First.{_when_else_}
 use Rattle.framing.specs.Numbers.{bytesOf, numberAt}
-use Rattle.plan.specs.Table.{bodyLength, fieldsOf, fieldCount, width, refusal, noField}
+use Rattle.plan.specs.Table.{bodyLength, fieldsOf, fieldCount, width, refusalOf, noField}
 use Rattle.plan.specs.Values.{limitsAt}
 use Rattle.plan.specs.Checks.{outside, fieldsFrom, fieldsAt}
 use Rattle.plan.specs.declared.Platform.{Platform}
@@ -64,7 +64,7 @@ module _ {s : List ℕ} {at : ℕ} {kind : Kind} {p : Platform} {l : Limits} {k 
     pub field-inside : at + offset + bytesOf (width f) ≤ length s
     field-inside = omega (arith, w .whole, w .room, size-left)
 
-    pub field-stops : {v : ℕ} → v ≡ numberAt s (width f) (at + offset) → outside l f v ≡ true → fieldsAt s at kind p ≡ Fault (refusal f) (at + offset)
+    pub field-stops : {v : ℕ} → v ≡ numberAt s (width f) (at + offset) → outside l f v ≡ true → fieldsAt s at kind p ≡ Fault (refusalOf f) (at + offset)
     unfolding fieldsFrom _when_else_
     field-stops q t = w .rest ∙ rw (next-field, ← q, t)
 

@@ -7,7 +7,7 @@ use mathlib.Core.List.{List, [], _∷_, _++_}
 use lib.ListN.{length, getD, take, set, replicate, length-set}
 use lib.Seq.{length-take-le}
 use Rattle.framing.specs.Numbers.{bytesOf, numberAt}
-use Rattle.plan.specs.Table.{bodyLength, fieldsOf, fieldCount, width, refusal, noField}
+use Rattle.plan.specs.Table.{bodyLength, fieldsOf, fieldCount, width, refusalOf, noField}
 use Rattle.plan.specs.Values.{platformAt, flowAt, limitsAt, blankPlatform, blankFlow}
 use Rattle.plan.specs.Checks.{frameAt, outside, restAt, recordAt}
 use Rattle.plan.specs.Reading.{accepted, refused, records, readPlan}
@@ -59,7 +59,7 @@ module _ {s : List ℕ} {at : ℕ} {p : Platform} {flows : List Flow} {count : �
 
   -- a field, its value and what the check of it said
   module _ {f : Field} {v : ℕ} {b : Bool} (h : k < fieldCount kind) (e : f ≡ getD (fieldsOf kind) k noField) (q : v ≡ numberAt s (width f) (at + offset)) (o : b ≡ outside l f v) where
-    pub field-refuses : b ≡ true → refused (refusal f) (at + offset) ≡ readPlan s
+    pub field-refuses : b ≡ true → refused (refusalOf f) (at + offset) ≡ readPlan s
     field-refuses t = sym (w .sofar .rest ∙ fault-ends s at p _ _ (record-field s at p _ frame-fine (field-stops (w .scan) h e q (sym o ∙ t))))
 
     pub inside-more : {n : ℕ} → b ≡ false → n ≡ bytesOf (width f) → Inside s at p flows count kind l (k + 1) (offset + n)

@@ -8,7 +8,7 @@ use lib.Dec.{leb, ltb, eqb}
 use Rattle.framing.specs.First.{_when_else_}
 use Rattle.framing.specs.Numbers.{bytesOf, numberAt}
 use Rattle.framing.specs.Header.{tagAt, lengthAt, headerCut, bodyCut}
-use Rattle.plan.specs.Table.{tagOf, bodyLength, fieldsOf, width, lowest, highest, refusal}
+use Rattle.plan.specs.Table.{tagOf, bodyLength, fieldsOf, width, lowestOf, highestOf, refusalOf}
 use Rattle.plan.specs.Values.{flowAt, limitsAt}
 use Rattle.plan.specs.declared.Platform.{Platform}
 use Rattle.plan.specs.declared.Flow.{Flow}
@@ -69,13 +69,13 @@ above l UpToPeriod v = ltb (l .period) v
 
 -- 5: "a field outside its values"
 abbrev pub outside : Limits → Field → ℕ → Bool
-outside l f v = ltb v (lowest f) || above l (highest f) v
+outside l f v = ltb v (lowestOf f) || above l (highestOf f) v
 
 -- "then 5 field by field": the fields from the one at this offset of the record on.
 unfoldable pub fieldsFrom : List ℕ → ℕ → Kind → Limits → ℕ → List Field → Checked
 fieldsFrom s at kind l offset [] = Passed kind
 fieldsFrom s at kind l offset (f ∷ fs) =
-    Fault (refusal f) (at + offset) when outside l f (numberAt s (width f) (at + offset)) else
+    Fault (refusalOf f) (at + offset) when outside l f (numberAt s (width f) (at + offset)) else
     fieldsFrom s at kind l (offset + bytesOf (width f)) fs
 
 -- The first field stands behind the tag and the length.

@@ -58,14 +58,14 @@ fieldsOf EndRecord = []
 abbrev pub width : Field → Width
 width f = f .0
 
-abbrev pub lowest : Field → ℕ
-lowest f = f .1
+abbrev pub lowestOf : Field → ℕ
+lowestOf f = f .1
 
-abbrev pub highest : Field → Limit
-highest f = f .2
+abbrev pub highestOf : Field → Limit
+highestOf f = f .2
 
-abbrev pub refusal : Field → ℕ
-refusal f = f .3
+abbrev pub refusalOf : Field → ℕ
+refusalOf f = f .3
 
 -- How many fields a record has, and where they begin in the lines of all records; what stands behind the last line.
 abbrev pub fieldCount : Kind → ℕ

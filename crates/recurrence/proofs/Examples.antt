@@ -8,13 +8,13 @@ use Rattle.recurrence.specs.declared.Settled.the-variants.{Bounded, Late
 use Rattle.recurrence.specs.Rounding.{up}
 use Rattle.recurrence.specs.Sums.{sumOver}
 use Rattle.recurrence.specs.Recurrence.{packets, rightSide}
-use Rattle.recurrence.specs.Outcome.{outcomeFrom, outcome}
+use Rattle.recurrence.specs.ComesTo.{comesToFrom, comesTo}
 
 abbrev term : ℕ → ℕ → ℕ → Term
 term shift period weight = record { shift = shift; period = period; weight = weight }
 
 abbrev settled : ℕ → ℕ → List Term → Settled
-settled c limit ts = outcome (rightSide c ts) c limit
+settled c limit ts = comesTo (rightSide c ts) c limit
 
 -- "with jitter and allowance zero, a window of 400 with period 400 holds one packet, 401 two"
 exact-multiple : (packets (term 0 400 1) 400 ≡ 1) × (packets (term 0 400 1) 401 ≡ 2) × (packets (term 0 400 1) 0 ≡ 0)
@@ -23,7 +23,7 @@ exact-multiple = (refl, refl, refl)
 
 -- "With no direct flow R = C_i"; "If C is above the deadline, zero."
 none-direct : (settled 62 200 [] ≡ Bounded 62 1) × (settled 62 62 [] ≡ Bounded 62 1) × (settled 62 61 [] ≡ Late 0)
-unfolding sumOver outcomeFrom outcome
+unfolding sumOver comesToFrom comesTo
 none-direct = (refl, refl, refl)
 
 -- P's flow 3, which flow 2 delays: "328, rounds 2"; with deadline 328 the same; with deadline 327 "late, 1".
@@ -32,7 +32,7 @@ abbrev flow-3 : List Term
 flow-3 = term 0 200 62 ∷ []
 
 flow-3-of-p : (settled 204 4000 flow-3 ≡ Bounded 328 2) × (settled 204 328 flow-3 ≡ Bounded 328 2) × (settled 204 327 flow-3 ≡ Late 1)
-unfolding up sumOver outcomeFrom outcome
+unfolding up sumOver comesToFrom comesTo
 flow-3-of-p = (refl, refl, refl)
 
 -- P's flow 5, which flow 3 delays, by the rows of "Figures to meet": methods 1, 2 and 3, buffer 2, and the deadlines 335 and 131.
@@ -43,7 +43,7 @@ flow-5-of-p :
     × (settled 132 6000 (term 124 4000 216 ∷ []) ≡ Bounded 348 2)
     × (settled 132 335 (term 124 4000 204 ∷ []) ≡ Late 1)
     × (settled 132 131 (term 124 4000 264 ∷ []) ≡ Late 0)
-unfolding up sumOver outcomeFrom outcome
+unfolding up sumOver comesToFrom comesTo
 flow-5-of-p = (refl, refl, refl, refl, refl, refl)
 
 -- The same with period 400 for flow 3: its packets come again before flow 5 is through.
@@ -51,10 +51,10 @@ flow-5-again :
     (settled 132 6000 (term 124 400 204 ∷ []) ≡ Bounded 540 3)
     × (settled 132 6000 (term 0 400 328 ∷ []) ≡ Bounded 788 3)
     × (settled 132 6000 (term 124 400 264 ∷ []) ≡ Bounded 660 3)
-unfolding up sumOver outcomeFrom outcome
+unfolding up sumOver comesToFrom comesTo
 flow-5-again = (refl, refl, refl)
 
 -- A flow that leaves no room makes the other late, round by round; the longest limit costs the definition nothing.
 no-room : (settled 132 1_000 (term 0 1 1 ∷ []) ≡ Late 7) × (settled 204 1_000_000_000 flow-3 ≡ Bounded 328 2)
-unfolding up sumOver outcomeFrom outcome
+unfolding up sumOver comesToFrom comesTo
 no-room = (refl, refl)

@@ -5,6 +5,6 @@ mod Climbing
 mod Counting
 mod Packets
 mod Summing
-mod Outcomes
+mod Computed
 pub mod Theorems
 mod Examples

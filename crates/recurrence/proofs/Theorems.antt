@@ -14,20 +14,20 @@ use Rattle.recurrence.specs.Sums.{sumOver}
 use Rattle.recurrence.specs.Recurrence.{delay, rightSide, total, released}
 use Rattle.recurrence.specs.Limits.{Fair, Given}
 use Rattle.recurrence.specs.Verdicts.{Bound, NoBound, replaced, Rounds, roundsOf, Allowed}
-use Rattle.recurrence.specs.Outcome.{outcome}
+use Rattle.recurrence.specs.ComesTo.{comesTo}
 use Rattle.recurrence.proofs.Climbing.{replaced-raised, climbing-none, climbing-bounded}
 use Rattle.recurrence.proofs.Counting.{rounds-far, bounded-count, late-count}
 use Rattle.recurrence.proofs.Packets.{right-side-rising, total-counts, total-reach, delay-fits, right-side-fits}
-use Rattle.recurrence.proofs.Outcomes.{rounds-once, allowed-once, verdict-bounded, verdict-late, computed-allowed}
+use Rattle.recurrence.proofs.Computed.{rounds-once, allowed-once, verdict-bounded, verdict-late, computed-allowed}
 
 -- Two outcomes allowed for one recurrence coincide.
 pub allowed-alike : {F : ℕ → ℕ} {c limit : ℕ} {o p : Settled} → Allowed F c limit o → Allowed F c limit p → o ≡ p
 allowed-alike a b = allowed-once _ _ a b
 
 module _ (c limit : ℕ) (ts : List Term) where
-  -- The outcome that is computed is the allowed one.
-  pub outcome-allowed : Allowed (rightSide c ts) c limit (outcome (rightSide c ts) c limit)
-  outcome-allowed = computed-allowed (right-side-rising c ts) limit
+  -- What is computed is what is allowed.
+  pub comes-to-allowed : Allowed (rightSide c ts) c limit (comesTo (rightSide c ts) c limit)
+  comes-to-allowed = computed-allowed (right-side-rising c ts) limit
 
   -- A bound is not below the latency, so that "R_j - C_j" is a whole number.
   pub latency-within : {r : ℕ} → Bound (rightSide c ts) limit r → c ≤ r

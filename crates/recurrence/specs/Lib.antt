@@ -4,4 +4,4 @@ pub mod Sums
 pub mod Recurrence
 pub mod Limits
 pub mod Verdicts
-pub mod Outcome
+pub mod ComesTo

@@ -2,7 +2,7 @@
 use mathlib.Core.Path.{ap}
 use lib.Dec.{ltb}
 use mathlib.Core.Bool.{Bool, _||_}
-use Rattle.plan.specs.Table.{lowest}
+use Rattle.plan.specs.Table.{lowestOf}
 use borrow.Author.Needs.{needs}
 use Rattle.plan.proofs.checks.is_outside.Statement.{statement}
 use Rattle.plan.proofs.checks.is_outside.Tie as tie
@@ -11,7 +11,7 @@ is-above-requires : tie.Need-is-above-requires
 is-above-requires c κs = search needs
 
 returns : tie.Need-returns
-returns c = let a = c .before .args in ap (λ (b : Bool). ltb (a .value) (lowest (a .field)) || b) (c .is-above .ensures)
+returns c = let a = c .before .args in ap (λ (b : Bool). ltb (a .value) (lowestOf (a .field)) || b) (c .is-above .ensures)
 
 pub is-outside-spec : {M : Type 1} → statement M
 is-outside-spec = tie.close (tie.spec is-above-requires returns)

@@ -1,4 +1,4 @@
--- There is exactly one allowed outcome, and `outcome` computes it.
+-- There is exactly one allowed comesTo, and `comesTo` computes it.
 use Prim.Native.Nat.{ℕ, zero, suc, _+_, _-_, _<_}
 use mathlib.Core.Path.{_≡_, refl, ap, ap₂, subst}
 use mathlib.Core.Logic.{_↔_}
@@ -10,7 +10,7 @@ use borrow.Author.Tests.{eqb-true, eqb-false, ltb-true, ltb-false}
 use Rattle.recurrence.specs.declared.Settled.{Settled}
 use Rattle.recurrence.specs.declared.Settled.the-variants.{Bounded, Late}
 use Rattle.recurrence.specs.Verdicts.{Bound, NoBound, RightVerdict, replaced, Last, Rounds, roundsOf, Allowed}
-use Rattle.recurrence.specs.Outcome.{outcomeFrom, outcome}
+use Rattle.recurrence.specs.ComesTo.{comesToFrom, comesTo}
 use Rattle.recurrence.proofs.Climbing.{Rising, Climbing, late-at-once, climbing-none, climbing-bounded, climbing-late, climbing-raised, climbing-more}
 
 -- Of two first places where something holds, neither is before the other.
@@ -58,8 +58,8 @@ by-test P true one other = one refl
 by-test P false one other = other refl
 
 module _ {F : ℕ → ℕ} {c : ℕ} (rising : Rising F c) where
-  from-allowed : (fuel : ℕ) {limit x k : ℕ} → Climbing F c limit x k → limit < x + fuel → Allowed F c limit (outcomeFrom fuel F limit x k)
-  unfolding outcomeFrom
+  from-allowed : (fuel : ℕ) {limit x k : ℕ} → Climbing F c limit x k → limit < x + fuel → Allowed F c limit (comesToFrom fuel F limit x k)
+  unfolding comesToFrom
   from-allowed zero s far = absurd (omega (arith, s .within))
   from-allowed (suc fuel) {limit} {x} {k} s far =
       by-test (Allowed F c limit) (eqb (F x) x)
@@ -69,8 +69,8 @@ module _ {F : ℕ → ℕ} {c : ℕ} (rising : Rising F c) where
       (λ high. climbing-late rising s refl (ltb-true _ _ high))
       (λ low. from-allowed fuel (climbing-more rising s refl new (ltb-false _ _ low)) (omega (arith, climbing-raised rising s refl new))))
 
-  pub computed-allowed : (limit : ℕ) → Allowed F c limit (outcome F c limit)
-  unfolding outcome
+  pub computed-allowed : (limit : ℕ) → Allowed F c limit (comesTo F c limit)
+  unfolding comesTo
   computed-allowed limit =
       by-test (Allowed F c limit) (ltb limit c)
       (λ high. late-at-once rising (ltb-true _ _ high))
