@@ -20,6 +20,7 @@ pub struct Limits {
     pub period: u32,
 }
 
+// The values of a record, by a reader that starts at its tag: each name is the reader at that field.
 pub(crate) fn platform_at(bytes: &[u8], at: usize) -> Platform
     requires { ⌜ at + 9 ≤ length (now bytes) ⌝ }
     ensures { λ r. ⌜ r ≡ platformAt (now (bytes .entry)) at ⌝ }
