@@ -81,12 +81,24 @@ fn put_plan(plan: Plan) {
     put_flows(flows, plan.count);
 }
 
+// Acceptance is number 0 at place 0.
+fn put_two(number: u8, place: usize) {
+    put(number as u64);
+    put(place as u64);
+}
+
+fn put_outcome(outcome: Outcome) {
+    match outcome {
+        Outcome::Accepted => put_two(0, 0),
+        Outcome::Refused(number, place) => put_two(number, place),
+    }
+}
+
 fn put_case(bytes: &[u8]) {
     let reading = plan::read(bytes);
     let outcome = reading.outcome;
     let plan = reading.plan;
-    put(outcome.number() as u64);
-    put(outcome.place() as u64);
+    put_outcome(outcome);
     put_plan(plan);
     if let Outcome::Accepted = outcome {
         put_answers(analyse_plan(plan), plan.count);

@@ -44,7 +44,7 @@ pub fn four<'a>(r: Reader<'a>) -> u32
 }
 
 // The place behind some bytes.
-pub fn place_past(s: &[u8], at: usize, count: usize) -> usize
+fn place_past(s: &[u8], at: usize, count: usize) -> usize
     requires { ⌜ at + count ≤ length (now s) ⌝ }
     ensures { λ r. ⌜ r ≡ at + count ⌝ }
 {

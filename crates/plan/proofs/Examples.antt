@@ -1,5 +1,5 @@
 -- Each place and each number of the table of refusals, pinned by examples that are computed from the definitions alone.
-use Prim.Native.Nat.{ℕ, zero, suc}
+use Prim.Native.Nat.{ℕ}
 use mathlib.Core.Path.{_≡_, refl}
 use mathlib.Core.List.{List, [], _∷_, _++_, map}
 use lib.ListN.{take, drop, set, replicate}
@@ -123,17 +123,7 @@ orders :
 unfolding tagOf headerAt taggedAt frameAt fieldsFrom clashAt tailAt restAt _then_ bodyAt recordAt accepted refused after records readPlan _when_else_ outcomes
 orders = refl
 
--- 6: n flows from node 0 to node 1, with ids 0, 1, .. and priorities 1, 2, ..
-flows : ℕ → List ℕ → List ℕ
-flows zero rest = rest
-flows (suc n) rest =
-    flows n (0x02 ∷ 0 ∷ 20 ∷ 0 ∷ n ∷ 0 ∷ suc n ∷ 0 ∷ 1 ∷ 0 ∷ 1 ∷ 0 ∷ 0 ∷ 0 ∷ 9 ∷ 0 ∷ 0 ∷ 0 ∷ 9 ∷ 0 ∷ 0 ∷ 0 ∷ 0 ∷ rest)
-
-a-65th-flow : outcomes ((take 9 P ++ flows 65 (0x7F ∷ 0 ∷ 0 ∷ [])) ∷ []) ≡ Refused 6 1481 ∷ []
-unfolding tagOf headerAt taggedAt frameAt fieldsFrom clashAt tailAt restAt _then_ bodyAt recordAt accepted refused after records readPlan _when_else_ outcomes flows
-a-65th-flow = refl
-
--- the flow record of P behind 64 flows: a cut body before 6, and 6 before its fields
+-- 6: the flow record of P behind 64 flows: a cut body before 6, and 6 before its fields
 behind-64 : List ℕ → Checked
 behind-64 s = recordAt s 9 (record { columns = 6; rows = 1; link = 1; routing = 0; buffer = 10; method = 3 }) (replicate 64 blankFlow)
 

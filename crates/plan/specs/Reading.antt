@@ -15,15 +15,6 @@ use Rattle.plan.specs.declared.checks.Checked.{Checked}
 use Rattle.plan.specs.declared.checks.Checked.the-variants.{Fault, Passed}
 use Rattle.plan.specs.declared.table.Kind.the-variants.{PlatformRecord, FlowRecord, EndRecord}
 
--- "A refusal returns its number and place. .. Acceptance returns number 0": the number of an outcome, and its place.
-abbrev pub numberOf : Outcome → ℕ
-numberOf Accepted = 0
-numberOf (Refused number place) = number
-
-abbrev pub placeOf : Outcome → ℕ
-placeOf Accepted = 0
-placeOf (Refused number place) = place
-
 abbrev pub planOf : Platform → List Flow → Plan
 planOf p fs = record { platform = p; flows = padded blankFlow fs; count = length fs }
 

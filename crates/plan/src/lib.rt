@@ -2,7 +2,7 @@
 ghost use mathlib.Core.Path.{_≡_};
 ghost use Prim.Native.Nat.{_≤_};
 ghost use lib.ListN.{take};
-ghost use Rattle.plan.specs.Reading.{numberOf, placeOf, accepted, refused, readPlan};
+ghost use Rattle.plan.specs.Reading.{accepted, refused, readPlan};
 ghost use Rattle.plan.specs.Padded.{padded};
 ghost use Rattle.plan.specs.Values.{blankFlow};
 use crate::checks::Checked;
@@ -59,27 +59,6 @@ pub struct Plan {
 pub enum Outcome {
     Accepted,
     Refused(u8, usize),
-}
-
-impl Outcome {
-    // Acceptance is number 0.
-    pub fn number(self) -> u8
-        ensures { λ r. ⌜ r ≡ numberOf self ⌝ }
-    {
-        match self {
-            Outcome::Accepted => 0,
-            Outcome::Refused(number, _) => number,
-        }
-    }
-
-    pub fn place(self) -> usize
-        ensures { λ r. ⌜ r ≡ placeOf self ⌝ }
-    {
-        match self {
-            Outcome::Accepted => 0,
-            Outcome::Refused(_, place) => place,
-        }
-    }
 }
 
 // A refused reading holds a blank plan.

@@ -7,20 +7,8 @@ use Rattle.cases.proofs.put_case.Tie as tie
 read-requires : tie.Need-read-requires
 read-requires c κs = search needs
 
-number-requires : tie.Need-number-requires
-number-requires c κs = search needs
-
-cast-put : tie.Need-cast-put
-cast-put c = search needs
-
-put-requires : tie.Need-put-requires
-put-requires c κs = search needs
-
-place-requires : tie.Need-place-requires
-place-requires c κs = search needs
-
-put-requires-2 : tie.Need-put-requires-2
-put-requires-2 c κs = search needs
+put-outcome-requires : tie.Need-put-outcome-requires
+put-outcome-requires c κs = search needs
 
 put-plan-requires : tie.Need-put-plan-requires
 put-plan-requires c κs = search needs
@@ -29,7 +17,7 @@ enum-told : tie.Need-enum-told
 enum-told c = search needs
 
 analyse-plan-requires : tie.Need-analyse-plan-requires
-analyse-plan-requires c κs = reading-scene _ (c .before .before .before .before .before .before .before .before .read .ensures) (c .enum-told .given .1)
+analyse-plan-requires c κs = reading-scene _ (c .before .before .before .before .before .read .ensures) (c .enum-told .given .1)
 
 put-answers-requires : tie.Need-put-answers-requires
 put-answers-requires c κs = search needs
@@ -51,11 +39,7 @@ put-case-spec =
     tie.close
     (tie.spec
     read-requires
-    number-requires
-    cast-put
-    put-requires
-    place-requires
-    put-requires-2
+    put-outcome-requires
     put-plan-requires
     enum-told
     analyse-plan-requires
