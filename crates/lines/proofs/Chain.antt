@@ -4,7 +4,7 @@ use native.Mathlib.Nat.{add-zero}
 use native.Mathlib.Omega.{arith}
 use mathlib.Core.Path.{_≡_, sym, ap, _∙_}
 use mathlib.Core.List.{List, [], _++_, append-nil}
-use lib.ListN.{length, take, drop, length-append, length-take, length-drop, take-append-drop}
+use lib.ListN.{length, length-append, length-take, length-drop, take-append-drop}
 use Rattle.framing.specs.Put.{put}
 use Rattle.framing.proofs.Puts.{put-put}
 use Rattle.lines.specs.Written.{Written}

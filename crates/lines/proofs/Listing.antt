@@ -1,8 +1,8 @@
 -- The loop of `put_flows`: the lines of the first i answers are written.
 use Prim.Native.Nat.{ℕ, _+_, _*_, _≤_, _<_}
 use native.Mathlib.Omega.{arith}
-use mathlib.Core.Path.{_≡_, refl, sym, _∙_}
-use mathlib.Core.List.{List, []}
+use mathlib.Core.Path.{_≡_, refl, _∙_}
+use mathlib.Core.List.{List}
 use lib.ListN.{length, take, getD}
 use Rattle.framing.specs.Each.{each}
 use Rattle.framing.proofs.Each.{each-more}

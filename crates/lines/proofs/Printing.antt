@@ -1,10 +1,10 @@
 -- `text_of` hands over the text that is defined, by what was read: a refusal, or a plan.
-use Prim.Native.Nat.{ℕ, zero, suc, _+_, _-_, _≤_}
+use Prim.Native.Nat.{ℕ, zero, suc, _-_, _≤_}
 use native.Mathlib.Nat.{zero-add}
 use native.Mathlib.Omega.{arith}
 use native.Mathlib.Numerals.{unary-clauses}
 use mathlib.Core.Path.{_≡_, refl, sym, ap, ap₂, _∙_}
-use mathlib.Core.List.{List, [], _++_}
+use mathlib.Core.List.{List, _++_}
 use lib.ListN.{length, take, drop, replicate}
 use lib.Seq.{length-take-le}
 use Rattle.io.specs.Counts.{Counts}
@@ -15,7 +15,6 @@ use Rattle.plan.specs.Reading.{readPlan}
 use Rattle.model.specs.declared.Answer.{Answer}
 use Rattle.engine.specs.Answers.{answerArray}
 use Rattle.engine.proofs.Accepted.{reading-scene, first-answers}
-use Rattle.lines.specs.declared.Text.{Text}
 use Rattle.lines.specs.Written.{Written}
 use Rattle.lines.specs.Lines.{meshLine, flowLine, refusalLine, textBy, textOf, handed}
 use Rattle.lines.proofs.Chain.{chain, length-held}

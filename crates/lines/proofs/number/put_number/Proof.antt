@@ -1,5 +1,4 @@
 -- `lines::number::put_number` meets its contract.
-use mathlib.Core.Path.{sym}
 use native.Mathlib.Omega.{arith}
 use borrow.Author.Needs.{needs}
 use Rattle.lines.proofs.Digits.{decimal-told}

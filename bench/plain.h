@@ -1,0 +1,19 @@
+/* Document 01 in plain C11: what the product is measured against. Each does what lingfallow_analyse does, on every
+ * input, refused ones too.
+ */
+#ifndef PLAIN_H
+#define PLAIN_H
+
+#include "lingfallow.h"
+
+/* The fastest form (plain.c). */
+struct lingfallow_returned plain_analyse(const uint8_t *plan, size_t plan_length, uint8_t *reply, size_t reply_length);
+
+/* The product's own steps, but for the routes, which are not listed (steps.c). */
+struct lingfallow_returned steps_analyse(const uint8_t *plan, size_t plan_length, uint8_t *reply, size_t reply_length);
+
+/* The product's own steps, with routes listed (steps.c with -DSTEPS_LISTED). */
+struct lingfallow_returned steps_analyse_listed(const uint8_t *plan, size_t plan_length, uint8_t *reply,
+                                                size_t reply_length);
+
+#endif
