@@ -1,5 +1,5 @@
 // "In the reader, the reading place travels together with the bytes being read."
-// Each function takes the struct apart and calls a covered one on the slice and the place.
+// A function that takes one takes it apart and calls a covered function on the slice and the place.
 ghost use mathlib.Core.Path.{_≡_};
 ghost use Prim.Native.Nat.{_+_, _≤_};
 ghost use lib.ListN.{length};
