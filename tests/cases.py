@@ -12,6 +12,8 @@ import struct
 import sys
 from pathlib import Path
 
+from common.routes import route
+
 ROOT = Path(__file__).resolve().parent.parent / "crates" / "cases"
 SEED = 20261115
 BILLION = 1_000_000_000
@@ -89,19 +91,6 @@ def read(data):
 
 
 # ---- an analysis of its own
-
-def route(columns, source, destination):
-    row, column = divmod(source, columns)
-    last_row, last_column = divmod(destination, columns)
-    nodes = [(row, column)]
-    while column != last_column:
-        column += 1 if column < last_column else -1
-        nodes.append((row, column))
-    while row != last_row:
-        row += 1 if row < last_row else -1
-        nodes.append((row, column))
-    return [("in", nodes[0])] + list(zip(nodes, nodes[1:])) + [("out", nodes[-1])]
-
 
 def up(a, b):
     return -(-a // b)

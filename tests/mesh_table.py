@@ -5,27 +5,15 @@ Rerun it from the repository's root:
     python3 tests/mesh_table.py             compares crates/mesh_table/stdout with what is worked out here; prints 'ok'
     python3 tests/mesh_table.py --print     prints what is worked out here
 
-A route is a list of links: ('in', node), a pair of neighbouring nodes for each hop, ('out', node).
 A line is for one mesh: how many ordered pairs of routes there are (source and destination differ), the sum of their
 counts of shared links, the sum of their first places, and a hash of both numbers of each pair in order.
 """
 import sys
 from pathlib import Path
 
+from common.routes import route
+
 MESHES = [(3, 4), (6, 1), (1, 6), (2, 2)]
-
-
-def route(columns, source, destination):
-    row, column = divmod(source, columns)
-    last_row, last_column = divmod(destination, columns)
-    nodes = [(row, column)]
-    while column != last_column:
-        column += 1 if column < last_column else -1
-        nodes.append((row, column))
-    while row != last_row:
-        row += 1 if row < last_row else -1
-        nodes.append((row, column))
-    return [("in", nodes[0])] + list(zip(nodes, nodes[1:])) + [("out", nodes[-1])]
 
 
 def kept(first, second):

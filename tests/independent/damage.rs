@@ -16,7 +16,7 @@ const DAMAGES: [Damage; 15] = [
     field_to_edge,
     field_to_edge,
     cut_anywhere,
-    stub_at_the_end,
+    part_of_a_header_at_the_end,
     append_bytes,
     duplicate_record,
     swap_records,
@@ -113,7 +113,7 @@ fn cut_anywhere(records: &mut Records, random: &mut Random) {
 }
 
 /// Ends inside of a header, whatever its tag.
-fn stub_at_the_end(records: &mut Records, random: &mut Random) {
+fn part_of_a_header_at_the_end(records: &mut Records, random: &mut Random) {
     records.truncate(random.below(records.len() + 1));
     let tag = random.pick(&[0x00, PLATFORM_TAG, FLOW_TAG, END_TAG, 0xFF]);
     records.push([tag, 0][..1 + random.below(2)].to_vec());
