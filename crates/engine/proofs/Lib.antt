@@ -1,13 +1,13 @@
 mod Sums
 mod Scenes
 mod Placing
+mod Places
 mod Costs
 mod Thirds
 mod Searching
 mod Methods
+mod Holding
 mod Pairings
-mod Judging
-mod Gathering
-mod Solving
+mod Turns
 mod Answering
 pub mod Accepted

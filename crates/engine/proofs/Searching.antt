@@ -1,28 +1,25 @@
--- The loop of a search for the flow of highest priority among those that pass a test.
+-- The loop of a search for the highest priority among the places that pass a test.
 use Prim.Native.Nat.{ℕ, _+_, _≤_, _<_}
 use native.Mathlib.Omega.{arith}
 use native.Mathlib.Nat.{le-refl}
 use native.Mathlib.Decide.{decLt}
-use mathlib.Core.Path.{_≡_, refl, sym, ap₂, _∙_}
+use mathlib.Core.Path.{_≡_, refl, sym, _∙_}
 use mathlib.Core.Bool.{Bool, true, false, _&&_, _||_, false≢true}
-use mathlib.Core.List.{List}
 use lib.Dec.{eqb, ltb}
 use borrow.Author.Count.{below-more}
 use borrow.Author.Tests.{eq-eqb, ne-eqb, ltb-true, ltb-false}
-use Rattle.plan.specs.declared.Flow.{Flow}
-use Rattle.plan.specs.Legal.{flow}
 use Rattle.model.proofs.Judged.{and-left, and-right}
 use Rattle.engine.specs.Search.{Highest}
 
-pub record Searching (passes : ℕ → Bool) (flows : List Flow) (count best lowest k : ℕ) : Type 0 where
+pub record Searching (passes : ℕ → Bool) (priority : ℕ → ℕ) (count best lowest k : ℕ) : Type 0 where
   pub few : count ≤ 64
   pub within : k ≤ count
   pub top : best ≤ 64
-  pub highest : Highest passes flows k best
-  pub lowest-is : best < 64 → lowest ≡ flow flows best .priority
+  pub highest : Highest passes priority k best
+  pub lowest-is : best < 64 → lowest ≡ priority best
 
-pub searching-none : (passes : ℕ → Bool) (flows : List Flow) (count lowest : ℕ) → count ≤ 64 → Searching passes flows count 64 lowest 0
-searching-none passes flows count lowest h = record {
+pub searching-none : (passes : ℕ → Bool) (priority : ℕ → ℕ) (count lowest : ℕ) → count ≤ 64 → Searching passes priority count 64 lowest 0
+searching-none passes priority count lowest h = record {
   few = h;
   within = omega arith;
   top = omega arith;
@@ -30,9 +27,9 @@ searching-none passes flows count lowest h = record {
   lowest-is = λ l. absurd (omega arith);
 }
 
-module _ {passes : ℕ → Bool} {flows : List Flow} {count best lowest k : ℕ} (w : Searching passes flows count best lowest k) (h : k < count)
-    {b : Bool} (e : b ≡ (passes k && (eqb best 64 || ltb (flow flows k .priority) lowest))) where
-  pub searching-new : b ≡ true → Searching passes flows count k (flow flows k .priority) (k + 1)
+module _ {passes : ℕ → Bool} {priority : ℕ → ℕ} {count best lowest k : ℕ} (w : Searching passes priority count best lowest k) (h : k < count)
+    {b : Bool} (e : b ≡ (passes k && (eqb best 64 || ltb (priority k) lowest))) where
+  pub searching-new : b ≡ true → Searching passes priority count k (priority k) (k + 1)
   searching-new t =
       let p = sym e ∙ t in
       record {
@@ -47,14 +44,14 @@ module _ {passes : ℕ → Bool} {flows : List Flow} {count best lowest k : ℕ}
         lowest-is = λ l. refl;
       }
     where
-      before : (m : ℕ) → m < k → passes m ≡ true → (eqb best 64 || ltb (flow flows k .priority) lowest) ≡ true → flow flows k .priority ≤ flow flows m .priority
+      before : (m : ℕ) → m < k → passes m ≡ true → (eqb best 64 || ltb (priority k) lowest) ≡ true → priority k ≤ priority m
       before m g q o = go (decLt best 64)
         where
-          go : Dec (best < 64) → flow flows k .priority ≤ flow flows m .priority
-          go (yes l) = let u = ltb-true (flow flows k .priority) lowest (rw (ne-eqb best 64 (omega arith)) at o) in omega (arith, w .lowest-is l, w .highest .least l m g q)
+          go : Dec (best < 64) → priority k ≤ priority m
+          go (yes l) = let u = ltb-true (priority k) lowest (rw (ne-eqb best 64 (omega arith)) at o) in omega (arith, w .lowest-is l, w .highest .least l m g q)
           go (no n) = absurd (w .highest .none (omega arith) m g q)
 
-  pub searching-old : b ≡ false → Searching passes flows count best lowest (k + 1)
+  pub searching-old : b ≡ false → Searching passes priority count best lowest (k + 1)
   searching-old f =
       record {
         few = w .few;
@@ -68,18 +65,14 @@ module _ {passes : ℕ → Bool} {flows : List Flow} {count best lowest k : ℕ}
         lowest-is = w .lowest-is;
       }
     where
-      open-test : passes k ≡ true → (eqb best 64 || ltb (flow flows k .priority) lowest) ≡ false
+      open-test : passes k ≡ true → (eqb best 64 || ltb (priority k) lowest) ≡ false
       open-test q = rw q at (sym e ∙ f)
 
-      over : best < 64 → passes k ≡ true → flow flows best .priority ≤ flow flows k .priority
-      over l q = let u = ltb-false (flow flows k .priority) lowest (rw (ne-eqb best 64 (omega arith)) at (open-test q)) in omega (arith, w .lowest-is l)
+      over : best < 64 → passes k ≡ true → priority best ≤ priority k
+      over l q = let u = ltb-false (priority k) lowest (rw (ne-eqb best 64 (omega arith)) at (open-test q)) in omega (arith, w .lowest-is l)
 
       never : 64 ≤ best → passes k ≡ true → ⊥
       never l q = false≢true (sym (rw (eq-eqb best 64 (omega (arith, w .top))) at (open-test q)))
 
--- the test as the code makes it, on what it read
-pub better-read : (passes : ℕ → Bool) (flows : List Flow) (best lowest k : ℕ) {b q : Bool} {priority : ℕ} → b ≡ (q && (eqb best 64 || ltb priority lowest)) → q ≡ passes k → priority ≡ flow flows k .priority → b ≡ (passes k && (eqb best 64 || ltb (flow flows k .priority) lowest))
-better-read passes flows best lowest k e q p = e ∙ ap₂ (λ (x : Bool) (n : ℕ). x && (eqb best 64 || ltb n lowest)) q p
-
-pub searching-all : {passes : ℕ → Bool} {flows : List Flow} {count best lowest k : ℕ} → Searching passes flows count best lowest k → count ≤ k → (best ≤ 64) × Highest passes flows count best
-searching-all {passes} {flows} {count} {best} {lowest} {k} w h = let e : k ≡ count = omega (arith, w .within) in (w .top, rw e at (w .highest))
+pub searching-all : {passes : ℕ → Bool} {priority : ℕ → ℕ} {count best lowest k : ℕ} → Searching passes priority count best lowest k → count ≤ k → (best ≤ 64) × Highest passes priority count best
+searching-all {passes} {priority} {count} {best} {lowest} {k} w h = let e : k ≡ count = omega (arith, w .within) in (w .top, rw e at (w .highest))

@@ -2,24 +2,34 @@
 use Prim.Native.Nat.{ℕ, _+_, _*_, _≤_, _<_, min}
 use native.Mathlib.Omega.{arith}
 use mathlib.Core.Path.{_≡_, refl}
+use mathlib.Core.Bool.{Bool, true, false, cond, not, _&&_}
 use borrow.Author.Tests.{lt-ltb, le-ltb}
-use Rattle.mesh.specs.declared.shared.Pair.{Pair}
+use lib.Dec.{ltb}
 use Rattle.engine.specs.Loads.{upPart, downPart, sumTo}
 use Rattle.engine.proofs.Sums.{sum-more, sum-within}
 
-module _ (ik jk : Pair) (first cap hit cost : ℕ) where
-  pub third-none : 0 < ik .count → (upPart ik jk first hit cost ≡ 0) × (downPart ik jk first cap hit cost ≡ 0)
+module _ (shared place first cap hit cost : ℕ) where
+  -- no hit costs nothing, wherever the flow stands
+  pub third-idle : hit ≡ 0 → (upPart shared place first hit cost ≡ 0) × (downPart shared place first cap hit cost ≡ 0)
   unfolding upPart downPart
-  third-none h = (rw (lt-ltb 0 (ik .count) h), rw (lt-ltb 0 (ik .count) h))
+  third-idle e = rw e (go (not (ltb 0 shared) && ltb place first) cost, go (not (ltb 0 shared) && not (ltb place first)) (min cost cap))
+    where
+      go : (b : Bool) (c : ℕ) → cond b (0 * c) 0 ≡ 0
+      go true c = omega arith
+      go false c = refl
 
-  module _ (apart : ik .count ≤ 0) where
-    pub third-up : jk .first < first → (upPart ik jk first hit cost ≡ hit * cost) × (downPart ik jk first cap hit cost ≡ 0)
-    unfolding upPart downPart
-    third-up h = (rw (le-ltb 0 (ik .count) apart, lt-ltb (jk .first) first h), rw (le-ltb 0 (ik .count) apart, lt-ltb (jk .first) first h))
+  pub third-near : 0 < shared → (upPart shared place first hit cost ≡ 0) × (downPart shared place first cap hit cost ≡ 0)
+  unfolding upPart downPart
+  third-near h = (rw (lt-ltb 0 shared h), rw (lt-ltb 0 shared h))
 
-    pub third-down : first ≤ jk .first → (upPart ik jk first hit cost ≡ 0) × (downPart ik jk first cap hit cost ≡ hit * min cost cap)
+  module _ (apart : shared ≤ 0) where
+    pub third-up : place < first → (upPart shared place first hit cost ≡ hit * cost) × (downPart shared place first cap hit cost ≡ 0)
     unfolding upPart downPart
-    third-down h = (rw (le-ltb 0 (ik .count) apart, le-ltb (jk .first) first h), rw (le-ltb 0 (ik .count) apart, le-ltb (jk .first) first h))
+    third-up h = (rw (le-ltb 0 shared apart, lt-ltb place first h), rw (le-ltb 0 shared apart, lt-ltb place first h))
+
+    pub third-down : first ≤ place → (upPart shared place first hit cost ≡ 0) × (downPart shared place first cap hit cost ≡ hit * min cost cap)
+    unfolding upPart downPart
+    third-down h = (rw (le-ltb 0 shared apart, le-ltb place first h), rw (le-ltb 0 shared apart, le-ltb place first h))
 
 -- what the loop of `sum_loads` knows behind k flows: `ups` and `downs` are the parts to add
 pub record Adding (ups downs : ℕ → ℕ) (count up down k : ℕ) : Type 0 where

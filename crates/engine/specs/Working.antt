@@ -1,38 +1,44 @@
--- What the engine knows when it comes to a flow: the tables, and the answers to all flows of higher priority.
+-- What the engine knows of the flows that it has come to.
 use Prim.Native.Nat.{ℕ, _<_}
 use mathlib.Core.Path.{_≡_}
+use mathlib.Core.Bool.{cond}
 use mathlib.Core.List.{List, []}
-use lib.ListN.{length, take, getD}
+use lib.ListN.{take, getD}
 use Rattle.plan.specs.declared.Platform.{Platform}
 use Rattle.plan.specs.declared.Flow.{Flow}
 use Rattle.plan.specs.Legal.{flow}
-use Rattle.mesh.specs.declared.shared.Pair.{Pair}
-use Rattle.model.specs.declared.Answer.{Answer}
 use Rattle.model.specs.Links.{pairOf}
-use Rattle.model.specs.Latency.{latency}
-use Rattle.model.specs.Verdicts.{boundIn, verdict, answerTo}
-use Rattle.pairs.specs.Pairs.{pairTable}
-use Rattle.pairs.specs.Scene.{Scene}
+use Rattle.model.specs.Latency.{methodUsed, latency}
+use Rattle.model.specs.Interference.{directFor}
+use Rattle.model.specs.Delays.{hits}
+use Rattle.model.specs.Verdicts.{boundIn, verdict}
 use Rattle.engine.specs.Filled.{Filled}
-use Rattle.engine.specs.Loads.{hitsBy}
-use Rattle.engine.specs.Answers.{blankAnswer}
+use Rattle.engine.specs.Figures.{figuresOf}
+use Rattle.engine.specs.Loads.{lookedAt}
 
--- The hits on flow j, from its bound.
+-- The bound of a flow, 0 where it has none.
+abbrev pub boundFor : Platform → List Flow → ℕ → Flow → ℕ
+boundFor p flows count f = boundIn (verdict p (take count flows) f)
+
+-- The hits on flow j, from its bound: 0 of a flow that is not direct for it.
 abbrev pub hitsOn : Platform → List Flow → ℕ → Flow → ℕ → ℕ
-hitsOn p flows count j k = hitsBy (boundIn (verdict p (take count flows) j)) j (flow flows k) (pairOf p j (flow flows k))
+hitsOn p flows count j k = cond (directFor p j (flow flows k)) (hits (boundFor p flows count j) (flow flows k)) 0
 
--- Every flow whose priority number is below n is answered, and the hits on it are known.
-pub record Known (p : Platform) (flows : List Flow) (count n : ℕ) (list : List Answer) (hits : List (List ℕ)) : Type 0 where
-  pub answer : (k : ℕ) → k < count → flow flows k .priority < n → getD list k blankAnswer ≡ answerTo p (take count flows) (flow flows k)
-  pub hit : (k : ℕ) → k < count → flow flows k .priority < n → Filled 0 (hitsOn p flows count (flow flows k)) (getD hits k []) count
+-- Something is known of the cell of every flow whose priority number is below n.
+pub record Below {A : Type 0} (flows : List Flow) (count n : ℕ) (P : ℕ → A → Type 0) (blank : A) (cells : List A) : Type 0 where
+  pub cell : (k : ℕ) → k < count → flow flows k .priority < n → P k (getD cells k blank)
 
-pub record Working
-    (p : Platform) (flows : List Flow) (count i : ℕ) (table : List (List Pair)) (costs : List ℕ) (hits : List (List ℕ)) (list : List Answer) :
-    Type 0 where
-  pub scene : Scene p flows count
-  pub inside : i < count
-  pub has-table : table ≡ pairTable p (take count flows)
-  pub has-costs : Filled 0 (λ k. latency p (flow flows k)) costs count
-  pub list-room : length list ≡ 64
-  pub hits-room : length hits ≡ 64
-  pub known : Known p flows count (flow flows i .priority) list hits
+module _ (p : Platform) (flows : List Flow) (count : ℕ) where
+  abbrev pub FirstsAre : ℕ → List ℕ → Type 0
+  FirstsAre k row = Filled 0 (λ m. pairOf p (flow flows k) (flow flows m) .first) row count
+
+  abbrev pub HitsAre : ℕ → List ℕ → Type 0
+  HitsAre k row = Filled 0 (hitsOn p flows count (flow flows k)) row (lookedAt (methodUsed p) count)
+
+  abbrev pub FiguresAre : ℕ → List ℕ → Type 0
+  FiguresAre k row = row ≡ figuresOf (latency p (flow flows k)) (boundFor p flows count (flow flows k)) (flow flows k)
+
+  pub record Known (n : ℕ) (firsts hits figures : List (List ℕ)) : Type 0 where
+    pub first : Below flows count n FirstsAre [] firsts
+    pub hit : Below flows count n HitsAre [] hits
+    pub figure : Below flows count n FiguresAre [] figures

@@ -1,52 +1,37 @@
 // The hits on a flow whose bound is known: they hang on no third flow, so they are worked out once.
-ghost use mathlib.Core.Path.{_≡_};
-ghost use Prim.Native.Nat.{_≤_, _<_};
+ghost use Prim.Native.Nat.{ℕ, _+_, _-_, _≤_, _<_};
 ghost use lib.ListN.{getD};
-ghost use Rattle.plan.specs.Legal.{flow as flow-at};
-ghost use Rattle.pairs.specs.Scene.{Scene};
-ghost use Rattle.pairs.specs.Pairs.{noPair};
-ghost use Rattle.engine.specs.Filled.{Filled};
-ghost use Rattle.engine.specs.Loads.{directBy, hitsBy};
-use mesh::shared::Pair;
-use pairs::PairRow;
-use plan::Flow;
-use plan::Plan;
-use recurrence::rounding::up;
-
-pub type Hits = [u32; 64];
+ghost use Rattle.recurrence.specs.Rounding.{up};
+ghost use Rattle.engine.specs.Figures.{end-at, last-at};
+ghost use Rattle.engine.specs.Loads.{lookedAt};
+ghost use Rattle.engine.specs.Places.{Dealt};
+use crate::figures::END;
+use crate::figures::FigureTable;
+use crate::figures::LAST;
+use crate::numbers::Numbers;
+use crate::numbers::place;
+use crate::rows::Row;
+use crate::terms::Way;
+use crate::terms::looked_at;
+use recurrence::packets;
 
 // Row j: the hits on flow j.
-pub type HitTable = [Hits; 64];
+pub type HitTable = [Numbers; 64];
 
-pub(crate) fn is_direct(i: Flow, j: Flow, ij: Pair) -> bool
-    ensures { λ r. ⌜ r ≡ directBy i j ij ⌝ }
+// The hits of each direct flow, and 0 for the others; none where the method looks at no third flow.
+pub(crate) fn hit_row(way: Way, row: Row, figures: &FigureTable, bound: u32) -> Numbers
+    requires { ⌜ (row .many ≤ 64) × ((m : ℕ) → m < row .many → (getD (row .direct) m 0 < 64) × (last-at (now figures) (getD (row .direct) m 0) ≤ end-at (now figures) (getD (row .direct) m 0)) × (bound + end-at (now figures) (getD (row .direct) m 0) < 4_294_967_295)) ⌝ }
+    ensures { λ r. ⌜ Dealt (λ k. up (bound + (end-at (now (figures .entry)) k - last-at (now (figures .entry)) k)) (last-at (now (figures .entry)) k + 1)) (row .direct) (lookedAt (way .method) (row .many)) r ⌝ }
 {
-    (j.priority < i.priority) & (0 < ij.count)
-}
-
-// The hits of k on j.
-fn hits_of(bound: u32, j: Flow, k: Flow, jk: Pair) -> u32
-    requires { ⌜ (bound ≤ 1_000_000_000) × (0 < k .period) × (k .period ≤ 1_000_000_000) × (k .jitter ≤ 1_000_000_000) ⌝ }
-    ensures { λ r. ⌜ r ≡ hitsBy bound j k jk ⌝ }
-{
-    if is_direct(j, k, jk) {
-        return up(bound + k.jitter, k.period);
-    }
-    0
-}
-
-// The hits of each flow on flow j.
-pub(crate) fn hit_row(plan: Plan, j: Flow, row: PairRow, bound: u32) -> Hits
-    requires { ⌜ Scene (plan .platform) (plan .flows) (plan .count) × (bound ≤ 1_000_000_000) ⌝ }
-    ensures { λ r. ⌜ Filled 0 (λ k. hitsBy bound j (flow-at (plan .flows) k) (getD row k noPair)) r (plan .count) ⌝ }
-{
-    let flows = plan.flows;
-    let count = plan.count;
+    let method = way.method;
+    let direct = row.direct;
+    let many = looked_at(method, row.many);
     let mut hit = [0; 64];
-    let mut k: usize = 0;
-    while k < count {
-        hit[k] = hits_of(bound, j, flows[k], row[k]);
-        k += 1;
+    let mut m: usize = 0;
+    while m < many {
+        let k = place(direct[m]);
+        hit[k] = packets(bound, figures[k][END], figures[k][LAST]);
+        m += 1;
     }
     hit
 }

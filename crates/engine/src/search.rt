@@ -1,88 +1,64 @@
 // The two searches for a flow of highest priority: the next one to be answered, and the one that a flow waits on.
 ghost use mathlib.Core.Path.{_≡_};
-ghost use mathlib.Core.Bool.{not, _&&_, _||_};
-ghost use Prim.Native.Nat.{_≤_};
+ghost use mathlib.Core.Bool.{_&&_, _||_};
+ghost use Prim.Native.Nat.{ℕ, _≤_, _<_};
 ghost use lib.Dec.{ltb, eqb};
 ghost use lib.ListN.{getD};
-ghost use Rattle.plan.specs.Legal.{flow as flow-at};
-ghost use Rattle.model.specs.Verdicts.{isBounded};
-ghost use Rattle.pairs.specs.Pairs.{noPair};
-ghost use Rattle.pairs.specs.Scene.{Scene};
-ghost use Rattle.engine.specs.Loads.{directBy};
+ghost use Rattle.engine.specs.Figures.{bound-at};
 ghost use Rattle.engine.specs.Search.{Highest};
-ghost use Rattle.engine.specs.Answers.{blankAnswer};
-use crate::Answers;
-use crate::hits::is_direct;
-use mesh::shared::Pair;
-use model::Verdict;
-use pairs::PairRow;
-use plan::Flow;
-use plan::Plan;
+use crate::figures::BOUND;
+use crate::figures::FigureTable;
+use crate::numbers::place;
+use crate::rows::Priorities;
+use crate::rows::Row;
 
 // Whether a flow that passes is the best so far: there is none yet, or it has a smaller priority number.
 fn is_better(passes: bool, best: usize, lowest: u16, priority: u16) -> bool
     ensures { λ r. ⌜ r ≡ (passes && (eqb best 64 || ltb priority lowest)) ⌝ }
 {
-    passes & ((best == 64) | (priority < lowest))
+    if passes {
+        return (best == 64) | (priority < lowest);
+    }
+    false
 }
 
 // The place of the flow of highest priority below `last`, or 64.
-pub(crate) fn next_flow(plan: Plan, last: u16) -> usize
-    requires { ⌜ Scene (plan .platform) (plan .flows) (plan .count) ⌝ }
-    ensures { λ r. ⌜ (r ≤ 64) × Highest (λ k. ltb last (flow-at (plan .flows) k .priority)) (plan .flows) (plan .count) r ⌝ }
+pub(crate) fn next_flow(priorities: &Priorities, count: usize, last: u16) -> usize
+    requires { ⌜ count ≤ 64 ⌝ }
+    ensures { λ r. ⌜ (r ≤ 64) × Highest (λ k. ltb last (getD (now (priorities .entry)) k 0)) (λ k. getD (now (priorities .entry)) k 0) count r ⌝ }
 {
-    let flows = plan.flows;
-    let count = plan.count;
     let mut best: usize = 64;
     let mut lowest: u16 = 0;
     let mut k: usize = 0;
     while k < count {
-        let f = flows[k];
-        if is_better(last < f.priority, best, lowest, f.priority) {
+        let priority = priorities[k];
+        if is_better(last < priority, best, lowest, priority) {
             best = k;
-            lowest = f.priority;
+            lowest = priority;
         }
         k += 1;
     }
     best
 }
 
-fn is_bounded(v: Verdict) -> bool
-    ensures { λ r. ⌜ r ≡ isBounded v ⌝ }
+// Among the direct flows, the place of the one of highest priority that has no bound, or 64.
+pub(crate) fn waits_on(row: Row, priorities: &Priorities, figures: &FigureTable) -> usize
+    requires { ⌜ (row .many ≤ 64) × ((m : ℕ) → m < row .many → getD (row .direct) m 0 < 64) ⌝ }
+    ensures { λ r. ⌜ (r ≤ 64) × Highest (λ m. eqb (bound-at (now (figures .entry)) (getD (row .direct) m 0)) 0) (λ m. getD (now (priorities .entry)) (getD (row .direct) m 0) 0) (row .many) r ⌝ }
 {
-    match v {
-        Verdict::Bounded(_, _) => true,
-        Verdict::Late(_) => false,
-        Verdict::Waits(_) => false,
-    }
-}
-
-// Whether j keeps i waiting.
-fn holds_up(i: Flow, j: Flow, ij: Pair, v: Verdict) -> bool
-    ensures { λ r. ⌜ r ≡ (directBy i j ij && not (isBounded v)) ⌝ }
-{
-    is_direct(i, j, ij) & !is_bounded(v)
-}
-
-// The place of the unbounded direct flow of highest priority, or 64.
-pub(crate) fn waits_on(plan: Plan, i: Flow, own: PairRow, list: Answers) -> usize
-    requires { ⌜ Scene (plan .platform) (plan .flows) (plan .count) ⌝ }
-    ensures { λ r. ⌜ (r ≤ 64) × Highest (λ k. directBy i (flow-at (plan .flows) k) (getD own k noPair) && not (isBounded (getD list k blankAnswer .verdict))) (plan .flows) (plan .count) r ⌝ }
-{
-    let flows = plan.flows;
-    let count = plan.count;
+    let direct = row.direct;
+    let many = row.many;
     let mut best: usize = 64;
     let mut lowest: u16 = 0;
-    let mut k: usize = 0;
-    while k < count {
-        let f = flows[k];
-        let one = list[k];
-        let v = one.verdict;
-        if is_better(holds_up(i, f, own[k], v), best, lowest, f.priority) {
-            best = k;
-            lowest = f.priority;
+    let mut m: usize = 0;
+    while m < many {
+        let j = place(direct[m]);
+        let priority = priorities[j];
+        if is_better(figures[j][BOUND] == 0, best, lowest, priority) {
+            best = m;
+            lowest = priority;
         }
-        k += 1;
+        m += 1;
     }
     best
 }

@@ -10,10 +10,9 @@ use Rattle.plan.specs.declared.Platform.{Platform}
 use Rattle.plan.specs.declared.Flow.{Flow}
 use Rattle.plan.specs.Legal.{LegalPlatform, LegalFlow, Legal, flow}
 use Rattle.mesh.proofs.Theorems.{route-most}
-use Rattle.recurrence.specs.declared.Term.{Term}
 use Rattle.recurrence.specs.Rounding.{up}
 use Rattle.recurrence.specs.Sums.{sumOver}
-use Rattle.recurrence.specs.Recurrence.{delay, rightSide}
+use Rattle.recurrence.specs.Recurrence.{Term, delay, rightSide}
 use Rattle.recurrence.specs.Verdicts.{Bound}
 use Rattle.recurrence.specs.Limits.{Fair, AllFair}
 use Rattle.recurrence.proofs.Quotients.{up-mono}

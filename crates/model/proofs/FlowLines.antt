@@ -5,23 +5,19 @@ use mathlib.Core.Bool.{true}
 use mathlib.Core.Logic.{_↔_}
 use mathlib.Core.List.{List, [], _∷_, map}
 use native.Mathlib.Decide.{decLt}
-use native.Mathlib.Nat.{le-refl}
 use native.Mathlib.Omega.{arith}
 use lib.ListN.{length, getD, length-map}
-use lib.Seq.{take-all}
 use Rattle.plan.specs.declared.Platform.{Platform}
 use Rattle.plan.specs.declared.Flow.{Flow}
 use Rattle.plan.specs.Reading.{accepted, readPlan}
 use Rattle.plan.specs.Legal.{Legal, flow}
 use Rattle.plan.proofs.Exact.{legal}
-use Rattle.recurrence.specs.declared.Term.{Term}
 use Rattle.recurrence.specs.declared.Settled.{Settled}
 use Rattle.recurrence.specs.declared.Settled.the-variants.{Bounded as BoundedAt, Late as LateAfter}
 use Rattle.recurrence.specs.Rounding.{up}
 use Rattle.recurrence.specs.Sums.{sumOver}
-use Rattle.recurrence.specs.Recurrence.{released}
+use Rattle.recurrence.specs.Recurrence.{Term, released}
 use Rattle.recurrence.specs.Verdicts.{Bound, NoBound, replaced, Rounds, roundsOf, Allowed}
-use Rattle.recurrence.specs.Limits.{Given}
 use Rattle.recurrence.proofs.Theorems.{bounded-exactly, late-exactly, rounds-exactly, rounds-zero, each-raises, rounds-four-bytes, rounds-bounded, rounds-late, rounds-plan, sums-fit}
 use Rattle.model.specs.declared.Verdict.{Verdict}
 use Rattle.model.specs.declared.Verdict.the-variants.{Bounded, Late, Waits}
@@ -210,14 +206,14 @@ module _ {p : Platform} {fs : List Flow} (w : Legal p fs) (k : ℕ) (l : k < len
   sums-stay free x low =
       let t : Flow → Term = λ j. term (methodUsed p) p fs (boundIn (verdict p fs j)) (flow fs k) j in
       let js = those (directFor p (flow fs k)) fs in
-      let all = take-all (length (termsOf p fs (verdict p fs) (flow fs k))) (termsOf p fs (verdict p fs) (flow fs k)) (le-refl _) in
-      let given : Given (latency p (flow fs k)) (limit (flow fs k)) (termsOf p fs (verdict p fs) (flow fs k)) (length (termsOf p fs (verdict p fs) (flow fs k))) = record {
-        latency = omega (arith, latency-small (w .platform) (w .each k l));
-        window = low-limit;
-        few = omega (arith, length-map js t, those-few (directFor p (flow fs k)) fs, w .few);
-        fair = rw all (terms-fair p fs w (verdict p fs) (flow fs k) (λ m h d. verdict-says p fs (flow fs m)) free);
-      } in
-      rw all at (sums-fit given low)
+      sums-fit
+      (latency p (flow fs k))
+      (termsOf p fs (verdict p fs) (flow fs k))
+      x
+      (omega (arith, latency-small (w .platform) (w .each k l)))
+      (omega (arith, length-map js t, those-few (directFor p (flow fs k)) fs, w .few))
+      (terms-fair p fs w (verdict p fs) (flow fs k) (λ m h d. verdict-says p fs (flow fs m)) free)
+      (omega (arith, low-limit))
 
 -- ---- the two demands, from the bytes on
 module _ (s : List ℕ) (p : Platform) (fs : List Flow) (e : readPlan s ≡ accepted p fs) (blank : Answer) (k : ℕ) (l : k < length fs) where

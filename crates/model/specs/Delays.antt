@@ -3,7 +3,7 @@ use Prim.Native.Nat.{ℕ, _+_, _-_, _*_, min}
 use mathlib.Core.List.{List, map}
 use Rattle.plan.specs.declared.Platform.{Platform}
 use Rattle.plan.specs.declared.Flow.{Flow}
-use Rattle.recurrence.specs.declared.Term.{Term}
+use Rattle.recurrence.specs.Recurrence.{Term}
 use Rattle.recurrence.specs.Rounding.{up}
 use Rattle.recurrence.specs.Sums.{sumOver}
 use Rattle.model.specs.Links.{pairOf}

@@ -6,10 +6,9 @@ use mathlib.Core.Option.{Option, none, some}
 use lib.Dec.{ltb}
 use Rattle.plan.specs.declared.Platform.{Platform}
 use Rattle.plan.specs.declared.Flow.{Flow}
-use Rattle.recurrence.specs.declared.Term.{Term}
 use Rattle.recurrence.specs.declared.Settled.{Settled}
 use Rattle.recurrence.specs.declared.Settled.the-variants.{Bounded as BoundedAt, Late as LateAfter}
-use Rattle.recurrence.specs.Recurrence.{rightSide, total}
+use Rattle.recurrence.specs.Recurrence.{Term, rightSide, total}
 use Rattle.recurrence.specs.ComesTo.{comesTo}
 use Rattle.model.specs.Latency.{methodUsed, latency, limit}
 use Rattle.model.specs.Interference.{directFor, those}

@@ -2,12 +2,11 @@
 use Prim.Native.Nat.{ℕ}
 use mathlib.Core.Path.{_≡_, refl}
 use mathlib.Core.List.{List, [], _∷_}
-use Rattle.recurrence.specs.declared.Term.{Term}
 use Rattle.recurrence.specs.declared.Settled.{Settled}
 use Rattle.recurrence.specs.declared.Settled.the-variants.{Bounded, Late}
 use Rattle.recurrence.specs.Rounding.{up}
 use Rattle.recurrence.specs.Sums.{sumOver}
-use Rattle.recurrence.specs.Recurrence.{packets, rightSide}
+use Rattle.recurrence.specs.Recurrence.{Term, packets, rightSide}
 use Rattle.recurrence.specs.ComesTo.{comesToFrom, comesTo}
 
 abbrev term : ℕ → ℕ → ℕ → Term

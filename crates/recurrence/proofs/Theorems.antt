@@ -6,18 +6,17 @@ use mathlib.Core.List.{List, []}
 use native.Mathlib.Nat.{add-zero}
 use native.Mathlib.Numerals.{add-one}
 use native.Mathlib.Omega.{arith}
-use lib.ListN.{take}
-use Rattle.recurrence.specs.declared.Term.{Term}
+use lib.ListN.{length}
 use Rattle.recurrence.specs.declared.Settled.{Settled}
 use Rattle.recurrence.specs.declared.Settled.the-variants.{Bounded, Late}
 use Rattle.recurrence.specs.Sums.{sumOver}
-use Rattle.recurrence.specs.Recurrence.{delay, rightSide, total, released}
-use Rattle.recurrence.specs.Limits.{Fair, Given}
+use Rattle.recurrence.specs.Recurrence.{Term, delay, rightSide, total, released}
+use Rattle.recurrence.specs.Limits.{Fair, AllFair}
 use Rattle.recurrence.specs.Verdicts.{Bound, NoBound, replaced, Rounds, roundsOf, Allowed}
 use Rattle.recurrence.specs.ComesTo.{comesTo}
 use Rattle.recurrence.proofs.Climbing.{replaced-raised, climbing-none, climbing-bounded}
 use Rattle.recurrence.proofs.Counting.{rounds-far, bounded-count, late-count}
-use Rattle.recurrence.proofs.Packets.{right-side-rising, total-counts, total-reach, delay-fits, right-side-fits}
+use Rattle.recurrence.proofs.Windows.{right-side-rising, total-counts, total-reach, delay-fits, right-side-fits}
 use Rattle.recurrence.proofs.Computed.{rounds-once, allowed-once, verdict-bounded, verdict-late, computed-allowed}
 
 -- Two outcomes allowed for one recurrence coincide.
@@ -90,5 +89,5 @@ alone c limit low = climbing-bounded (right-side-rising c []) (climbing-none (ri
 pub term-fits : {t : Term} {x : ℕ} → Fair t → x ≤ 1_000_000_000 → (x + t .shift + t .period < 2 ^ 32) × (delay t x < 2 ^ 32)
 term-fits fair low = (omega (arith, fair .period, fair .shift), omega (arith, delay-fits fair low))
 
-pub sums-fit : {c limit count : ℕ} {terms : List Term} {x : ℕ} → Given c limit terms count → x ≤ limit → rightSide c (take count terms) x < 2 ^ 38
+pub sums-fit : (c : ℕ) (ts : List Term) (x : ℕ) → c ≤ 1_000_000_000 → length ts ≤ 64 → AllFair ts → x ≤ 1_000_000_000 → rightSide c ts x < 2 ^ 38
 sums-fit = right-side-fits

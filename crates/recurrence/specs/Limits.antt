@@ -1,8 +1,9 @@
 -- What `settle` is given. Under these limits every sum stays inside 64 bits.
 use Prim.Native.Nat.{ℕ, _≤_, _<_}
 use mathlib.Core.List.{List, [], _∷_}
-use lib.ListN.{take}
-use Rattle.recurrence.specs.declared.Term.{Term}
+use lib.ListN.{getD}
+use Rattle.recurrence.specs.Recurrence.{Term}
+use Rattle.recurrence.specs.Columns.{heldTerms}
 
 -- "No weight of a bounded flow exceeds that flow's bound, nor does its allowance, and the bound is at most its period."
 -- So a shift, which is a jitter and an allowance, is at most 2,000,000,000.
@@ -16,9 +17,10 @@ abbrev pub AllFair : List Term → Type 0
 AllFair [] = Unit {0}
 AllFair (t ∷ ts) = Fair t × AllFair ts
 
--- A flow's latency, what its bound is held against, and its terms, the first `count` of an array.
-pub record Given (c limit : ℕ) (terms : List Term) (count : ℕ) : Type 0 where
+-- A flow's latency, what its bound is held against, and its terms, the first `count` of the columns.
+pub record Given (c limit : ℕ) (ends lasts weights : List ℕ) (count : ℕ) : Type 0 where
   pub latency : c ≤ 1_000_000_000
   pub window : limit ≤ 1_000_000_000
   pub few : count ≤ 64
-  pub fair : AllFair (take count terms)
+  pub ordered : (k : ℕ) → k < count → getD lasts k 0 ≤ getD ends k 0
+  pub fair : AllFair (heldTerms ends lasts weights count)

@@ -1,9 +1,14 @@
 -- Document 01, "The three recurrences": the right side, over the terms of a flow, one for each direct flow.
 use Prim.Native.Nat.{ℕ, _+_, _*_}
 use mathlib.Core.List.{List}
-use Rattle.recurrence.specs.declared.Term.{Term}
 use Rattle.recurrence.specs.Rounding.{up}
 use Rattle.recurrence.specs.Sums.{sumOver}
+
+-- A direct flow's part in the recurrence. The shift is its jitter and its delay allowance together.
+pub record Term : Type 0 where
+  pub shift : ℕ
+  pub period : ℕ
+  pub weight : ℕ
 
 -- "Packets of j in a window x: n_j(x) = up((x + jitter_j + A) / period_j)."
 abbrev pub packets : Term → ℕ → ℕ

@@ -1,23 +1,11 @@
 // One flow's recurrence, solved (document 01, "The three recurrences", "Verdicts and rounds").
 ghost use mathlib.Core.Path.{_≡_};
-ghost use Prim.Native.Nat.{_≤_};
-ghost use lib.ListN.{take};
+ghost use Prim.Native.Nat.{_+_, _-_, _≤_, _<_};
+ghost use Rattle.recurrence.specs.Rounding.{up};
 ghost use Rattle.recurrence.specs.Recurrence.{delay, rightSide};
+ghost use Rattle.recurrence.specs.Columns.{held, heldTerms};
 ghost use Rattle.recurrence.specs.Limits.{Fair, Given};
 ghost use Rattle.recurrence.specs.Verdicts.{Allowed};
-use crate::rounding::up;
-
-pub mod rounding;
-
-// A direct flow's part in the recurrence. `shift` is its jitter and its delay allowance together.
-pub struct Term {
-    pub shift: u32,
-    pub period: u32,
-    pub weight: u32,
-}
-
-// Room for the terms of a flow.
-pub type Terms = [Term; 64];
 
 // What comes of a recurrence: the bound and the rounds, or the rounds of a flow that is late.
 pub enum Settled {
@@ -32,19 +20,34 @@ fn wide(x: u32) -> u64
     x as u64
 }
 
-// The delay that one direct flow brings in a window x. The window and its period together fit 32 bits, where division is fastest.
-fn delay(t: Term, x: u32) -> u64
-    requires { ⌜ Fair t × (x ≤ 1_000_000_000) ⌝ }
-    ensures { λ r. ⌜ r ≡ delay t x ⌝ }
+// The packets in a window. `last` is the last cycle of a period, counted from 0, and `end` a shift with that added: so one addition and one division round up, in 32 bits.
+pub fn packets(window: u32, end: u32, last: u32) -> u32
+    requires { ⌜ (last ≤ end) × (window + end < 4_294_967_295) ⌝ }
+    ensures { λ r. ⌜ r ≡ up (window + (end - last)) (last + 1) ⌝ }
 {
-    wide(up(x + t.shift, t.period)) * wide(t.weight)
+    (window + end) / (last + 1)
+}
+
+// The delay that one direct flow brings in a window x.
+fn delay(x: u32, end: u32, last: u32, weight: u32) -> u64
+    requires { ⌜ Fair (held end last weight) × (last ≤ end) × (x ≤ 1_000_000_000) ⌝ }
+    ensures { λ r. ⌜ r ≡ delay (held end last weight) x ⌝ }
+{
+    wide(packets(x, end, last)) * wide(weight)
 }
 
 // Replaces x by the right side, from c on, until it stays as it is or passes the limit.
-// The terms are summed in here: a function that took them would copy them once per round.
-pub fn settle(c: u32, limit: u32, terms: Terms, count: usize) -> Settled
-    requires { ⌜ Given c limit terms count ⌝ }
-    ensures { λ r. ⌜ Allowed (rightSide c (take count terms)) c limit r ⌝ }
+// The terms are lent in columns of numbers: an array of structs would be copied.
+pub fn settle(
+    c: u32,
+    limit: u32,
+    ends: &[u32; 64],
+    lasts: &[u32; 64],
+    weights: &[u32; 64],
+    count: usize,
+) -> Settled
+    requires { ⌜ Given c limit (now ends) (now lasts) (now weights) count ⌝ }
+    ensures { λ r. ⌜ Allowed (rightSide c (heldTerms (now (ends .entry)) (now (lasts .entry)) (now (weights .entry)) count)) c limit r ⌝ }
 {
     if limit < c {
         return Settled::Late(0);
@@ -55,7 +58,7 @@ pub fn settle(c: u32, limit: u32, terms: Terms, count: usize) -> Settled
         let mut new = wide(c);
         let mut j: usize = 0;
         while j < count {
-            new += delay(terms[j], x);
+            new += delay(x, ends[j], lasts[j], weights[j]);
             j += 1;
         }
         rounds += 1;

@@ -3,15 +3,12 @@ use Prim.Native.Nat.{_*_}
 use mathlib.Core.Path.{ap₂, _∙_}
 use native.Mathlib.Omega.{arith}
 use borrow.Author.Needs.{needs}
-use Rattle.recurrence.proofs.Packets.{delay-fits}
+use Rattle.recurrence.proofs.Windows.{delay-fits}
 use Rattle.recurrence.proofs.delay.Statement.{statement}
 use Rattle.recurrence.proofs.delay.Tie as tie
 
-add-up : tie.Need-add-up
-add-up c = search needs
-
-up-requires : tie.Need-up-requires
-up-requires c κs = search needs
+packets-requires : tie.Need-packets-requires
+packets-requires c κs = let p = c .pre in (omega (arith, p .1), omega (arith, p .1, p .0 .shift, p .0 .period))
 
 wide-requires : tie.Need-wide-requires
 wide-requires c κs = search needs
@@ -20,11 +17,11 @@ wide-requires-2 : tie.Need-wide-requires-2
 wide-requires-2 c κs = search needs
 
 returns : tie.Need-returns
-returns c = ap₂ _*_ (c .before .wide .ensures ∙ c .before .before .up .ensures) (c .wide2 .ensures)
+returns c = ap₂ _*_ (c .before .wide .ensures ∙ c .before .before .packets .ensures) (c .wide2 .ensures)
 
 mul-result : tie.Need-mul-result
 mul-result c =
-    let p = c .before .before .before .before .pre in record { fits = omega (arith, returns c, delay-fits (p .0) (p .1)) }
+    let p = c .before .before .before .pre in record { fits = omega (arith, returns c, delay-fits (p .0) (p .2)) }
 
 pub delay-spec : {M : Type 1} → statement M
-delay-spec = tie.close (tie.spec add-up up-requires wide-requires wide-requires-2 mul-result returns)
+delay-spec = tie.close (tie.spec packets-requires wide-requires wide-requires-2 mul-result returns)

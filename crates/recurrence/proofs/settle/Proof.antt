@@ -1,26 +1,26 @@
 -- `recurrence::settle` meets its contract. Outside, x climbs towards the limit; inside, the terms are summed.
 use Prim.Native.Nat.{_-_}
 use native.Mathlib.Omega.{arith}
-use lib.ListN.{take}
 use Rattle.recurrence.specs.Recurrence.{rightSide}
-use Rattle.recurrence.proofs.Packets.{right-side-rising}
-use Rattle.recurrence.proofs.Summing.{Summed, summed-all, summed-fair, summed-more, summed-fits}
+use Rattle.recurrence.specs.Columns.{heldTerms}
+use Rattle.recurrence.proofs.Windows.{right-side-rising}
+use Rattle.recurrence.proofs.Summing.{Summed, summed-none, summed-all, summed-fair, summed-more, summed-fits}
 use Rattle.recurrence.proofs.Climbing.{Climbing, late-at-once, climbing-none, climbing-far, climbing-bounded, climbing-late, climbing-raised, climbing-more}
 use borrow.Author.Needs.{needs}
 use Rattle.recurrence.proofs.settle.Statement.{statement}
 use Rattle.recurrence.proofs.settle.Tie as tie
 
 abbrev Inv-loop2 : tie.InvT-loop2
-Inv-loop2 c limit count terms x rounds new₀ j₀ new j = Summed c limit terms count x new j
+Inv-loop2 c limit ends lasts weights count x rounds new₀ j₀ new j = Summed c limit ends lasts weights count x new j
 
 abbrev μ-loop2 : tie.MeasureT-loop2
-μ-loop2 c limit count terms x rounds new₀ j₀ new j = count - j
+μ-loop2 c limit ends lasts weights count x rounds new₀ j₀ new j = count - j
 
 abbrev Inv-loop : tie.InvT-loop
-Inv-loop c limit count terms x₀ rounds₀ x rounds = Climbing (rightSide c (take count terms)) c limit x rounds
+Inv-loop c limit ends lasts weights count x₀ rounds₀ x rounds = Climbing (rightSide c (heldTerms ends lasts weights count)) c limit x rounds
 
 abbrev μ-loop : tie.MeasureT-loop
-μ-loop c limit count terms x₀ rounds₀ x rounds = limit - x
+μ-loop c limit ends lasts weights count x₀ rounds₀ x rounds = limit - x
 
 returns : tie.Need-returns Inv-loop2 μ-loop2 Inv-loop μ-loop
 returns c = late-at-once (right-side-rising _ _) (omega arith)
@@ -32,19 +32,31 @@ wide-requires : tie.Need-wide-requires Inv-loop2 μ-loop2 Inv-loop μ-loop
 wide-requires c κs = search needs
 
 loop2-holds : tie.Need-loop2-holds Inv-loop2 μ-loop2 Inv-loop μ-loop
-loop2-holds c = search needs
+loop2-holds c = summed-none (c .before .before .before .pre) (search needs) (c .wide .ensures)
 
 mul-delay : tie.Need-mul-delay Inv-loop2 μ-loop2 Inv-loop μ-loop
 mul-delay c = search needs
 
-array-copy-out-delay : tie.Need-array-copy-out-delay Inv-loop2 μ-loop2 Inv-loop μ-loop
-array-copy-out-delay c = search needs
+element-copy-out-delay : tie.Need-element-copy-out-delay Inv-loop2 μ-loop2 Inv-loop μ-loop
+element-copy-out-delay c = search needs
+
+mul-delay-2 : tie.Need-mul-delay-2 Inv-loop2 μ-loop2 Inv-loop μ-loop
+mul-delay-2 c = search needs
+
+element-copy-out-delay-2 : tie.Need-element-copy-out-delay-2 Inv-loop2 μ-loop2 Inv-loop μ-loop
+element-copy-out-delay-2 c = search needs
+
+mul-delay-3 : tie.Need-mul-delay-3 Inv-loop2 μ-loop2 Inv-loop μ-loop
+mul-delay-3 c = search needs
+
+element-copy-out-delay-3 : tie.Need-element-copy-out-delay-3 Inv-loop2 μ-loop2 Inv-loop μ-loop
+element-copy-out-delay-3 c = search needs
 
 delay-requires : tie.Need-delay-requires Inv-loop2 μ-loop2 Inv-loop μ-loop
-delay-requires c κs = (summed-fair (c .before .before .loop2 .inv) (search needs), search needs)
+delay-requires c κs = let s = c .before .before .before .before .loop2 .inv in (summed-fair s (search needs), s .given .ordered _ (search needs), search needs)
 
 add-new : tie.Need-add-new Inv-loop2 μ-loop2 Inv-loop μ-loop
-add-new c = record { fits = summed-fits (c .before .before .before .loop2 .inv) (search needs) (c .delay .ensures) }
+add-new c = record { fits = summed-fits (c .before .before .before .before .before .loop2 .inv) (search needs) (c .delay .ensures) }
 
 add-j : tie.Need-add-j Inv-loop2 μ-loop2 Inv-loop μ-loop
 add-j c = search needs
@@ -53,7 +65,7 @@ loop2-less : tie.Need-loop2-less Inv-loop2 μ-loop2 Inv-loop μ-loop
 loop2-less c = search needs
 
 loop2-again : tie.Need-loop2-again Inv-loop2 μ-loop2 Inv-loop μ-loop
-loop2-again c = summed-more (c .before .before .before .loop2 .inv) (search needs) (c .delay .ensures)
+loop2-again c = summed-more (c .before .before .before .before .before .loop2 .inv) (search needs) (c .delay .ensures)
 
 add-rounds : tie.Need-add-rounds Inv-loop2 μ-loop2 Inv-loop μ-loop
 add-rounds c = omega (arith, climbing-far (right-side-rising _ _) (c .before .before .before .loop .inv))
@@ -100,7 +112,11 @@ settle-spec =
     wide-requires
     loop2-holds
     mul-delay
-    array-copy-out-delay
+    element-copy-out-delay
+    mul-delay-2
+    element-copy-out-delay-2
+    mul-delay-3
+    element-copy-out-delay-3
     delay-requires
     add-new
     add-j

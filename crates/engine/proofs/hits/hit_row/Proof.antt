@@ -1,62 +1,80 @@
 -- `engine::hits::hit_row` meets its contract.
-use Prim.Native.Nat.{_-_}
+use Prim.Native.Nat.{_+_, _-_, _<_}
 use native.Mathlib.Omega.{arith}
-use mathlib.Core.Path.{ap, _∙_}
-use lib.ListN.{getD}
-use Rattle.plan.specs.declared.Flow.{Flow}
-use Rattle.plan.specs.Legal.{flow}
-use Rattle.pairs.specs.Pairs.{noPair}
-use Rattle.engine.specs.Loads.{hitsBy}
-use Rattle.engine.proofs.Scenes.{scene-read, scene-legal}
-use Rattle.engine.proofs.Placing.{Placing, placing-none, placing-more, placing-all}
+use mathlib.Core.Path.{refl}
+use Rattle.recurrence.specs.Rounding.{up}
+use Rattle.engine.specs.Figures.{end-at, last-at}
+use Rattle.engine.proofs.Places.{Dealing, dealing-none, dealing-more, dealing-all}
 use borrow.Author.Needs.{needs}
 use Rattle.engine.proofs.hits.hit_row.Statement.{statement}
 use Rattle.engine.proofs.hits.hit_row.Tie as tie
 
 abbrev Inv-loop : tie.InvT-loop
-Inv-loop j bound row flows count hit₀ k₀ hit k = Placing 0 (λ m. hitsBy bound j (flow flows m) (getD row m noPair)) count hit k
+Inv-loop figures bound direct many hit₀ m₀ hit m = Dealing (λ k. up (bound + (end-at figures k - last-at figures k)) (last-at figures k + 1)) direct many hit m
 
 abbrev μ-loop : tie.MeasureT-loop
-μ-loop j bound row flows count hit₀ k₀ hit k = count - k
+μ-loop figures bound direct many hit₀ m₀ hit m = many - m
+
+looked-at-requires : tie.Need-looked-at-requires Inv-loop μ-loop
+looked-at-requires c κs = search needs
 
 loop-holds : tie.Need-loop-holds Inv-loop μ-loop
-loop-holds c = placing-none _ _ _ (c .before .pre .0 .few) (search needs)
+loop-holds c = dealing-none _ _ _ _ refl
 
-mul-hits-of : tie.Need-mul-hits-of Inv-loop μ-loop
-mul-hits-of c = search needs
+array-read-place : tie.Need-array-read-place Inv-loop μ-loop
+array-read-place c = omega (arith, c .loop-test .taken, c .before .before .looked-at .ensures, c .before .before .before .before .pre .0)
 
-array-copy-out-hits-of : tie.Need-array-copy-out-hits-of Inv-loop μ-loop
-array-copy-out-hits-of c = search needs
+place-requires : tie.Need-place-requires Inv-loop μ-loop
+place-requires c κs = search needs
 
-mul-hits-of-2 : tie.Need-mul-hits-of-2 Inv-loop μ-loop
-mul-hits-of-2 c = search needs
+mul-packets : tie.Need-mul-packets Inv-loop μ-loop
+mul-packets c = search needs
 
-array-copy-out-hits-of-2 : tie.Need-array-copy-out-hits-of-2 Inv-loop μ-loop
-array-copy-out-hits-of-2 c = search needs
+index-1-packets : tie.Need-index-1-packets Inv-loop μ-loop
+index-1-packets c = let h : c .before .before .loop .m < c .before .before .before .before .before .args .row .many = omega (arith, c .before .loop-test .taken, c .before .before .before .looked-at .ensures) in
+    let q = c .before .before .before .before .before .pre .1 (c .before .before .loop .m) h in
+    omega (arith, c .place .ensures, q)
 
-hits-of-requires : tie.Need-hits-of-requires Inv-loop μ-loop
-hits-of-requires c κs = let l = scene-legal (c .before .before .before .before .before .pre .0) (c .before .before .before .loop .k) (c .before .before .loop-test .taken) in
-    (c .before .before .before .before .before .pre .1, omega (arith, l .period), l .period .1, l .jitter .1)
+index-2-packets : tie.Need-index-2-packets Inv-loop μ-loop
+index-2-packets c = search needs
+
+mul-packets-2 : tie.Need-mul-packets-2 Inv-loop μ-loop
+mul-packets-2 c = search needs
+
+index-1-packets-2 : tie.Need-index-1-packets-2 Inv-loop μ-loop
+index-1-packets-2 c = let h : c .before .before .before .loop .m < c .before .before .before .before .before .before .args .row .many = omega (arith, c .before .before .loop-test .taken, c .before .before .before .before .looked-at .ensures) in
+    let q = c .before .before .before .before .before .before .pre .1 (c .before .before .before .loop .m) h in
+    omega (arith, c .before .place .ensures, q)
+
+index-2-packets-2 : tie.Need-index-2-packets-2 Inv-loop μ-loop
+index-2-packets-2 c = search needs
+
+packets-requires : tie.Need-packets-requires Inv-loop μ-loop
+packets-requires c κs = let h : c .before .before .before .before .loop .m < c .before .before .before .before .before .before .before .args .row .many = omega (arith, c .before .before .before .loop-test .taken, c .before .before .before .before .before .looked-at .ensures) in
+    let q = c .before .before .before .before .before .before .before .pre .1 (c .before .before .before .before .loop .m) h in
+    rw (c .before .before .place .ensures .0) (q .1, q .2)
 
 mul-hit : tie.Need-mul-hit Inv-loop μ-loop
 mul-hit c = search needs
 
 array-write-hit : tie.Need-array-write-hit Inv-loop μ-loop
-array-write-hit c = search needs
+array-write-hit c = let h : c .before .before .before .before .before .loop .m < c .before .before .before .before .before .before .before .before .args .row .many = omega (arith, c .before .before .before .before .loop-test .taken, c .before .before .before .before .before .before .looked-at .ensures) in
+    let q = c .before .before .before .before .before .before .before .before .pre .1 (c .before .before .before .before .before .loop .m) h in
+    omega (arith, c .before .before .before .place .ensures, q)
 
-add-k : tie.Need-add-k Inv-loop μ-loop
-add-k c = search needs
+add-m : tie.Need-add-m Inv-loop μ-loop
+add-m c = search needs
 
 loop-less : tie.Need-loop-less Inv-loop μ-loop
 loop-less c = search needs
 
 loop-again : tie.Need-loop-again Inv-loop μ-loop
-loop-again c = let a = c .before .before .before .before .before .before .args in
-    let l = c .before .before .before .before .loop in
-    placing-more (l .inv) (c .before .before .before .loop-test .taken) (c .hits-of .ensures ∙ ap (λ (f : Flow). hitsBy (a .bound) (a .j) f (getD (a .t3) (l .k) noPair)) (scene-read (c .before .before .before .before .before .before .pre .0) (l .k) (c .before .before .before .loop-test .taken)))
+loop-again c = let h : c .before .before .before .before .before .loop .m < c .before .before .before .before .before .before .before .before .args .row .many = omega (arith, c .before .before .before .before .loop-test .taken, c .before .before .before .before .before .before .looked-at .ensures) in
+    let q = c .before .before .before .before .before .before .before .before .pre .1 (c .before .before .before .before .before .loop .m) h in
+    rw (c .before .before .before .place .ensures .0) (dealing-more (c .before .before .before .before .before .loop .inv) (c .before .before .before .before .loop-test .taken) (q .0) (rw (c .before .before .before .place .ensures .0) at (c .packets .ensures)))
 
 returns : tie.Need-returns Inv-loop μ-loop
-returns c = placing-all (c .before .loop .inv) (search needs)
+returns c = rw (← c .before .before .looked-at .ensures .0) (dealing-all (c .before .loop .inv) (search needs))
 
 pub hit-row-spec : {M : Type 1} → statement M
 hit-row-spec =
@@ -64,15 +82,20 @@ hit-row-spec =
     (tie.spec
     Inv-loop
     μ-loop
+    looked-at-requires
     loop-holds
-    mul-hits-of
-    array-copy-out-hits-of
-    mul-hits-of-2
-    array-copy-out-hits-of-2
-    hits-of-requires
+    array-read-place
+    place-requires
+    mul-packets
+    index-1-packets
+    index-2-packets
+    mul-packets-2
+    index-1-packets-2
+    index-2-packets-2
+    packets-requires
     mul-hit
     array-write-hit
-    add-k
+    add-m
     loop-less
     loop-again
     returns)

@@ -7,40 +7,37 @@ use Rattle.engine.proofs.loads.sum_loads.Statement.{statement}
 use Rattle.engine.proofs.loads.sum_loads.Tie as tie
 
 abbrev Inv-loop : tie.InvT-loop
-Inv-loop first cap count own row hit costs l₀ k₀ l k = Adding (upLoad own row hit costs first) (downLoad own row hit costs first cap) count (l .up) (l .down) k
+Inv-loop shared places hit figures first cap count l₀ k₀ l k = Adding (upLoad shared places hit figures first) (downLoad shared places hit figures first cap) count (l .up) (l .down) k
 
 abbrev μ-loop : tie.MeasureT-loop
-μ-loop first cap count own row hit costs l₀ k₀ l k = count - k
+μ-loop shared places hit figures first cap count l₀ k₀ l k = count - k
 
 loop-holds : tie.Need-loop-holds Inv-loop μ-loop
 loop-holds c = adding-none _ _ _ (c .pre .0) (c .pre .1) (c .pre .2)
 
+element-copy-out-with-third : tie.Need-element-copy-out-with-third Inv-loop μ-loop
+element-copy-out-with-third c = search needs
+
+element-copy-out-with-third-2 : tie.Need-element-copy-out-with-third-2 Inv-loop μ-loop
+element-copy-out-with-third-2 c = search needs
+
 mul-with-third : tie.Need-mul-with-third Inv-loop μ-loop
 mul-with-third c = search needs
 
-array-copy-out-with-third : tie.Need-array-copy-out-with-third Inv-loop μ-loop
-array-copy-out-with-third c = search needs
+element-copy-out-with-third-3 : tie.Need-element-copy-out-with-third-3 Inv-loop μ-loop
+element-copy-out-with-third-3 c = search needs
 
 mul-with-third-2 : tie.Need-mul-with-third-2 Inv-loop μ-loop
 mul-with-third-2 c = search needs
 
-array-copy-out-with-third-2 : tie.Need-array-copy-out-with-third-2 Inv-loop μ-loop
-array-copy-out-with-third-2 c = search needs
+index-1-with-third : tie.Need-index-1-with-third Inv-loop μ-loop
+index-1-with-third c = search needs
 
-mul-with-third-3 : tie.Need-mul-with-third-3 Inv-loop μ-loop
-mul-with-third-3 c = search needs
-
-array-read-with-third : tie.Need-array-read-with-third Inv-loop μ-loop
-array-read-with-third c = search needs
-
-mul-with-third-4 : tie.Need-mul-with-third-4 Inv-loop μ-loop
-mul-with-third-4 c = search needs
-
-array-read-with-third-2 : tie.Need-array-read-with-third-2 Inv-loop μ-loop
-array-read-with-third-2 c = search needs
+index-2-with-third : tie.Need-index-2-with-third Inv-loop μ-loop
+index-2-with-third c = search needs
 
 with-third-requires : tie.Need-with-third-requires Inv-loop μ-loop
-with-third-requires c κs = adding-room (c .before .before .before .loop .inv) (c .before .before .loop-test .taken)
+with-third-requires c κs = adding-room (c .before .before .before .before .before .loop .inv) (c .before .before .before .before .loop-test .taken)
 
 add-k : tie.Need-add-k Inv-loop μ-loop
 add-k c = search needs
@@ -49,7 +46,7 @@ loop-less : tie.Need-loop-less Inv-loop μ-loop
 loop-less c = search needs
 
 loop-again : tie.Need-loop-again Inv-loop μ-loop
-loop-again c = adding-more (c .before .before .before .before .loop .inv) (c .before .before .before .loop-test .taken) (c .with-third .ensures .0) (c .with-third .ensures .1)
+loop-again c = adding-more (c .before .before .before .before .before .before .loop .inv) (c .before .before .before .before .before .loop-test .taken) (c .with-third .ensures .0) (c .with-third .ensures .1)
 
 returns : tie.Need-returns Inv-loop μ-loop
 returns c = adding-all (c .before .loop .inv) (search needs)
@@ -61,14 +58,13 @@ sum-loads-spec =
     Inv-loop
     μ-loop
     loop-holds
+    element-copy-out-with-third
+    element-copy-out-with-third-2
     mul-with-third
-    array-copy-out-with-third
+    element-copy-out-with-third-3
     mul-with-third-2
-    array-copy-out-with-third-2
-    mul-with-third-3
-    array-read-with-third
-    mul-with-third-4
-    array-read-with-third-2
+    index-1-with-third
+    index-2-with-third
     with-third-requires
     add-k
     loop-less

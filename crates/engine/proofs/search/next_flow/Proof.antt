@@ -1,30 +1,27 @@
 -- `engine::search::next_flow` meets its contract.
 use Prim.Native.Nat.{_-_}
-use mathlib.Core.Path.{ap}
 use mathlib.Core.Logic.{⊎-elim}
 use lib.Dec.{ltb}
-use Rattle.plan.specs.declared.Flow.{Flow}
-use Rattle.plan.specs.Legal.{flow}
-use Rattle.engine.proofs.Scenes.{scene-read}
-use Rattle.engine.proofs.Searching.{Searching, searching-none, searching-new, searching-old, better-read, searching-all}
+use lib.ListN.{getD}
+use Rattle.engine.proofs.Searching.{Searching, searching-none, searching-new, searching-old, searching-all}
 use borrow.Author.Needs.{needs}
 use Rattle.engine.proofs.search.next_flow.Statement.{statement}
 use Rattle.engine.proofs.search.next_flow.Tie as tie
 
 abbrev Inv-loop : tie.InvT-loop
-Inv-loop last flows count best₀ lowest₀ k₀ best lowest k = Searching (λ m. ltb last (flow flows m .priority)) flows count best lowest k
+Inv-loop priorities count last best₀ lowest₀ k₀ best lowest k = Searching (λ m. ltb last (getD priorities m 0)) (λ m. getD priorities m 0) count best lowest k
 
 abbrev μ-loop : tie.MeasureT-loop
-μ-loop last flows count best₀ lowest₀ k₀ best lowest k = count - k
+μ-loop priorities count last best₀ lowest₀ k₀ best lowest k = count - k
 
 loop-holds : tie.Need-loop-holds Inv-loop μ-loop
-loop-holds c = searching-none _ _ _ _ (c .before .pre .few)
+loop-holds c = searching-none _ _ _ _ (c .pre)
 
-mul-f : tie.Need-mul-f Inv-loop μ-loop
-mul-f c = search needs
+mul-priority : tie.Need-mul-priority Inv-loop μ-loop
+mul-priority c = search needs
 
-array-copy-out-f : tie.Need-array-copy-out-f Inv-loop μ-loop
-array-copy-out-f c = search needs
+element-copy-out-priority : tie.Need-element-copy-out-priority Inv-loop μ-loop
+element-copy-out-priority c = search needs
 
 is-better-requires : tie.Need-is-better-requires Inv-loop μ-loop
 is-better-requires c κs = search needs
@@ -36,14 +33,11 @@ loop-less : tie.Need-loop-less Inv-loop μ-loop
 loop-less c = search needs
 
 loop-again : tie.Need-loop-again Inv-loop μ-loop
-loop-again c = let l = c .before .before .before .before .before .loop in
-    let h = c .before .before .before .before .loop-test .taken in
-    let a = c .before .before .before .before .before .before .before .args in
-    let r = scene-read (c .before .before .before .before .before .before .before .pre) (l .k) h in
-    let e = better-read (λ m. ltb (a .last) (flow (a .plan .flows) m .priority)) (a .plan .flows) (l .best) (l .lowest) (l .k) (c .before .is-better .ensures) (ap (λ (f : Flow). ltb (a .last) (f .priority)) r) (ap (λ (f : Flow). f .priority) r) in
+loop-again c = let l = c .before .before .before .before .loop in
+    let h = c .before .before .before .loop-test .taken in
     ⊎-elim
-    (λ w. rw (w .1, w .2, r) (searching-new (l .inv) h e (w .0 .taken)))
-    (λ w. rw (w .1, w .2) (searching-old (l .inv) h e (w .0 .left)))
+    (λ w. rw (w .1, w .2) (searching-new (l .inv) h (c .before .is-better .ensures) (w .0 .taken)))
+    (λ w. rw (w .1, w .2) (searching-old (l .inv) h (c .before .is-better .ensures) (w .0 .left)))
     (c .if1 .came)
 
 returns : tie.Need-returns Inv-loop μ-loop
@@ -56,8 +50,8 @@ next-flow-spec =
     Inv-loop
     μ-loop
     loop-holds
-    mul-f
-    array-copy-out-f
+    mul-priority
+    element-copy-out-priority
     is-better-requires
     add-k
     loop-less

@@ -1,80 +1,65 @@
 -- `engine::search::waits_on` meets its contract.
 use Prim.Native.Nat.{_-_}
 use native.Mathlib.Omega.{arith}
-use mathlib.Core.Path.{_≡_, ap, ap₂, _∙_}
-use mathlib.Core.Bool.{not, _&&_}
 use mathlib.Core.Logic.{⊎-elim}
-use lib.ListN.{length, getD}
-use Rattle.plan.specs.declared.Flow.{Flow}
-use Rattle.plan.specs.Legal.{flow}
-use Rattle.model.specs.declared.Answer.{Answer}
-use Rattle.model.specs.Verdicts.{isBounded}
-use Rattle.pairs.specs.Pairs.{noPair}
-use Rattle.engine.specs.Loads.{directBy}
-use Rattle.engine.specs.Answers.{blankAnswer}
-use Rattle.pairs.proofs.Tables.{any-default}
-use Rattle.engine.proofs.Scenes.{scene-read}
-use Rattle.engine.proofs.Searching.{Searching, searching-none, searching-new, searching-old, better-read, searching-all}
+use lib.Dec.{eqb}
+use lib.ListN.{getD}
+use Rattle.engine.specs.Figures.{bound-at}
+use Rattle.engine.proofs.Searching.{Searching, searching-none, searching-new, searching-old, searching-all}
 use borrow.Author.Needs.{needs}
 use Rattle.engine.proofs.search.waits_on.Statement.{statement}
 use Rattle.engine.proofs.search.waits_on.Tie as tie
 
 abbrev Inv-loop : tie.InvT-loop
-Inv-loop i own list flows count best₀ lowest₀ k₀ best lowest k = (length list ≡ 64) × Searching (λ m. directBy i (flow flows m) (getD own m noPair) && not (isBounded (getD list m blankAnswer .verdict))) flows count best lowest k
+Inv-loop priorities figures direct many best₀ lowest₀ m₀ best lowest m = Searching (λ k. eqb (bound-at figures (getD direct k 0)) 0) (λ k. getD priorities (getD direct k 0) 0) many best lowest m
 
 abbrev μ-loop : tie.MeasureT-loop
-μ-loop i own list flows count best₀ lowest₀ k₀ best lowest k = count - k
+μ-loop priorities figures direct many best₀ lowest₀ m₀ best lowest m = many - m
 
 loop-holds : tie.Need-loop-holds Inv-loop μ-loop
-loop-holds c = (search needs, searching-none _ _ _ _ (c .before .pre .few))
+loop-holds c = searching-none _ _ _ _ (c .before .pre .0)
 
-mul-f : tie.Need-mul-f Inv-loop μ-loop
-mul-f c = search needs
+array-read-place : tie.Need-array-read-place Inv-loop μ-loop
+array-read-place c = search needs
 
-array-copy-out-f : tie.Need-array-copy-out-f Inv-loop μ-loop
-array-copy-out-f c = search needs
+place-requires : tie.Need-place-requires Inv-loop μ-loop
+place-requires c κs = search needs
 
-mul-one : tie.Need-mul-one Inv-loop μ-loop
-mul-one c = search needs
+mul-priority : tie.Need-mul-priority Inv-loop μ-loop
+mul-priority c = search needs
 
-array-copy-out-one : tie.Need-array-copy-out-one Inv-loop μ-loop
-array-copy-out-one c = search needs
+element-copy-out-priority : tie.Need-element-copy-out-priority Inv-loop μ-loop
+element-copy-out-priority c = omega (arith, c .place .ensures, c .before .before .before .before .pre .1 (c .before .before .loop .m) (c .before .loop-test .taken))
 
-mul-holds-up : tie.Need-mul-holds-up Inv-loop μ-loop
-mul-holds-up c = search needs
+mul-is-better : tie.Need-mul-is-better Inv-loop μ-loop
+mul-is-better c = search needs
 
-array-copy-out-holds-up : tie.Need-array-copy-out-holds-up Inv-loop μ-loop
-array-copy-out-holds-up c = search needs
+index-1-is-better : tie.Need-index-1-is-better Inv-loop μ-loop
+index-1-is-better c = omega (arith, c .before .place .ensures, c .before .before .before .before .before .pre .1 (c .before .before .before .loop .m) (c .before .before .loop-test .taken))
 
-holds-up-requires : tie.Need-holds-up-requires Inv-loop μ-loop
-holds-up-requires c κs = search needs
+index-2-is-better : tie.Need-index-2-is-better Inv-loop μ-loop
+index-2-is-better c = search needs
 
 is-better-requires : tie.Need-is-better-requires Inv-loop μ-loop
 is-better-requires c κs = search needs
 
-add-k : tie.Need-add-k Inv-loop μ-loop
-add-k c = search needs
+add-m : tie.Need-add-m Inv-loop μ-loop
+add-m c = search needs
 
 loop-less : tie.Need-loop-less Inv-loop μ-loop
 loop-less c = search needs
 
 loop-again : tie.Need-loop-again Inv-loop μ-loop
-loop-again c = let l = c .before .before .before .before .before .before .before .loop in
-    let h = c .before .before .before .before .before .before .loop-test .taken in
-    let a = c .before .before .before .before .before .before .before .before .before .args in
-    let r = scene-read (c .before .before .before .before .before .before .before .before .before .pre) (l .k) h in
-    let s = any-default (a .t4) (l .k) _ blankAnswer (omega (arith, l .inv .0, l .inv .1 .few)) in
-    let q = c .before .before .holds-up .ensures ∙ ap₂ (λ (f : Flow) (x : Answer). directBy (a .i) f (getD (a .t3) (l .k) noPair) && not (isBounded (x .verdict))) r s in
-    let e = better-read (λ m. directBy (a .i) (flow (a .plan .flows) m) (getD (a .t3) m noPair) && not (isBounded (getD (a .t4) m blankAnswer .verdict))) (a .plan .flows) (l .best) (l .lowest) (l .k) (c .before .is-better .ensures) q (ap (λ (f : Flow). f .priority) r) in (
-      l .inv .0,
-      ⊎-elim
-          (λ w. rw (w .1, w .2, r) (searching-new (l .inv .1) h e (w .0 .taken)))
-          (λ w. rw (w .1, w .2) (searching-old (l .inv .1) h e (w .0 .left)))
-          (c .if1 .came),
-    )
+loop-again c = let l = c .before .before .before .before .before .before .loop in
+    let h = c .before .before .before .before .before .loop-test .taken in
+    let e = rw (c .before .before .before .before .place .ensures .0) at (c .before .is-better .ensures) in
+    ⊎-elim
+    (λ w. rw (w .1, w .2, c .before .before .before .before .place .ensures .0) (searching-new (l .inv) h e (w .0 .taken)))
+    (λ w. rw (w .1, w .2) (searching-old (l .inv) h e (w .0 .left)))
+    (c .if1 .came)
 
 returns : tie.Need-returns Inv-loop μ-loop
-returns c = searching-all (c .before .loop .inv .1) (search needs)
+returns c = searching-all (c .before .loop .inv) (search needs)
 
 pub waits-on-spec : {M : Type 1} → statement M
 waits-on-spec =
@@ -83,15 +68,15 @@ waits-on-spec =
     Inv-loop
     μ-loop
     loop-holds
-    mul-f
-    array-copy-out-f
-    mul-one
-    array-copy-out-one
-    mul-holds-up
-    array-copy-out-holds-up
-    holds-up-requires
+    array-read-place
+    place-requires
+    mul-priority
+    element-copy-out-priority
+    mul-is-better
+    index-1-is-better
+    index-2-is-better
     is-better-requires
-    add-k
+    add-m
     loop-less
     loop-again
     returns)

@@ -6,14 +6,14 @@ use Rattle.engine.proofs.terms.term_of.Tie as tie
 allowance-requires : tie.Need-allowance-requires
 allowance-requires c κs = search needs
 
-add-t7 : tie.Need-add-t7
-add-t7 c = search needs
-
 add-t8 : tie.Need-add-t8
 add-t8 c = search needs
+
+add-t9 : tie.Need-add-t9
+add-t9 c = search needs
 
 returns : tie.Need-returns
 returns c = cc
 
 pub term-of-spec : {M : Type 1} → statement M
-term-of-spec = tie.close (tie.spec allowance-requires add-t7 add-t8 returns)
+term-of-spec = tie.close (tie.spec allowance-requires add-t8 add-t9 returns)

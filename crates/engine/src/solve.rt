@@ -1,0 +1,62 @@
+// A flow's recurrence, from the bounds of its direct flows.
+ghost use mathlib.Core.List.{map};
+ghost use lib.ListN.{take};
+ghost use Rattle.recurrence.specs.Recurrence.{rightSide};
+ghost use Rattle.recurrence.specs.Verdicts.{Allowed};
+ghost use Rattle.engine.specs.Solving.{termAt, Solvable};
+use crate::figures::BOUND;
+use crate::figures::COST;
+use crate::figures::END;
+use crate::figures::FigureTable;
+use crate::figures::LAST;
+use crate::hits::HitTable;
+use crate::loads::sum_loads;
+use crate::numbers::Bytes;
+use crate::numbers::place;
+use crate::rows::Row;
+use crate::terms::Way;
+use crate::terms::cap_of;
+use crate::terms::term_of;
+use recurrence::Settled;
+use recurrence::settle;
+
+// Row j: the first places on the route of flow j.
+pub type PlaceTable = [Bytes; 64];
+
+// The flow at i, of the latency `cost`.
+pub(crate) fn solve(
+    way: Way,
+    i: usize,
+    cost: u32,
+    limit: u32,
+    row: Row,
+    firsts: &PlaceTable,
+    hits: &HitTable,
+    figures: &FigureTable,
+) -> Settled
+    requires { ⌜ Solvable way i cost limit row (now firsts) (now hits) (now figures) ⌝ }
+    ensures { λ r. ⌜ Allowed (rightSide cost (map (termAt way i (row .shared) (now (firsts .entry)) (now (hits .entry)) (now (figures .entry))) (take (row .many) (row .direct)))) cost limit r ⌝ }
+{
+    let method = way.method;
+    let platform = way.platform;
+    let shared = row.shared;
+    let direct = row.direct;
+    let many = row.many;
+    let mut ends = [0; 64];
+    let mut lasts = [0; 64];
+    let mut weights = [0; 64];
+    let mut m: usize = 0;
+    while m < many {
+        let j = place(direct[m]);
+        let first = firsts[j][i];
+        let cap = cap_of(method, platform, shared[j]);
+        let l = sum_loads(&shared, &firsts[j], &hits[j], figures, first, cap, way.seen);
+        let g = figures[j];
+        let t = term_of(method, g[END], g[LAST], g[BOUND], g[COST], l);
+        ends[m] = t.end;
+        lasts[m] = t.last;
+        weights[m] = t.weight;
+        m += 1;
+    }
+    settle(cost, limit, &ends, &lasts, &weights, many)
+}
