@@ -1,4 +1,4 @@
--- The tender's three conditions of acceptedWith, of any bytes offered as a plan and any buffer lent for the reply.
+-- The tender's three conditions of acceptance, of any bytes offered as a plan and any buffer lent for the reply.
 -- `analyse` promises to return `returned bytes (length held)` and to leave `left bytes held` in the buffer that held `held`.
 -- The words of these statements: `Laid` and `Legal` of plan's specs, `Right` of model's specs/Rules, and this crate's specs/Records.
 use Prim.Native.Nat.{ℕ, _+_, _-_, _*_, _≤_, _<_}

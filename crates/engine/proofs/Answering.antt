@@ -30,7 +30,7 @@ use Rattle.model.proofs.Judged.{direct-above, same-place}
 use Rattle.model.proofs.Verdicts.{verdict-says}
 use Rattle.model.proofs.Fits.{limit-period}
 use Rattle.pairs.specs.Pairs.{pairTable}
-use Rattle.pairs.specs.Scene.{Scene, RowOf}
+use Rattle.pairs.specs.Scene.{Scene, HasRow}
 use Rattle.pairs.proofs.Cells.{filled-cell}
 use Rattle.engine.specs.declared.rows.Row.{Row}
 use Rattle.engine.specs.declared.terms.Way.{Way}
@@ -145,7 +145,7 @@ module _ {p : Platform} {flows : List Flow} {count : ℕ} {table : List (List Pa
         ef : getD flows i zeros ≡ flow flows i
         ef = scene-read (w .scene) i inside
 
-        o : RowOf p flows count (flow flows i) (getD table i d)
+        o : HasRow p flows count (flow flows i) (getD table i d)
         o = row-read (w .scene) (w .has-table) i d inside
 
         lists : Listed (λ k. directFor p (flow flows i) (flow flows k)) count (row .direct) (row .many)

@@ -15,7 +15,7 @@ use Rattle.mesh.specs.declared.shared.Pair.{Pair}
 use Rattle.model.specs.Links.{routeOf, pairOf}
 use Rattle.model.proofs.Links.{with-itself}
 use Rattle.pairs.specs.Pairs.{noPair, noRow, pairTable}
-use Rattle.pairs.specs.Scene.{Scene, RowOf}
+use Rattle.pairs.specs.Scene.{Scene, HasRow}
 use Rattle.pairs.proofs.Tables.{any-default}
 use Rattle.pairs.proofs.Cells.{filled-cell}
 
@@ -44,7 +44,7 @@ module _ {p : Platform} {flows : List Flow} {count : ℕ} (w : Scene p flows cou
   own-length k h = ap (λ (x : Pair). x .count) (rw (scene-at k h) at (with-itself (w .legal) k (omega (arith, scene-long))))
 
   -- the row that the code reads at i
-  pub row-read : {table : List (List Pair)} → table ≡ pairTable p (take count flows) → (i : ℕ) (d : List Pair) → i < count → RowOf p flows count (flow flows i) (getD table i d)
+  pub row-read : {table : List (List Pair)} → table ≡ pairTable p (take count flows) → (i : ℕ) (d : List Pair) → i < count → HasRow p flows count (flow flows i) (getD table i d)
   row-read {table} e i d h =
       let fs = take count flows in
       let n = scene-long in

@@ -21,7 +21,7 @@ fn house_default() -> Method
     Method::XLWX
 }
 
-// The one place where a method's number has a meaning.
+// What a method's number means.
 pub fn method_used(p: Platform) -> Method
     ensures { λ r. ⌜ r ≡ methodUsed p ⌝ }
 {

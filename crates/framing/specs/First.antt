@@ -1,4 +1,4 @@
--- Document 01, "What sends a plan back": checks that are made in an order, where the first fault met decides.
+-- Tests made in an order: the first that is true decides.
 use mathlib.Core.Bool.{Bool, true, false}
 
 infixr 20 _when_else_

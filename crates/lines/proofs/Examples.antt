@@ -19,7 +19,7 @@ use Rattle.model.specs.Interference.{directFor, indirectFor, comesBefore, those
 use Rattle.model.specs.Delays.{allowance, weight, term, terms}
 use Rattle.model.specs.Verdicts.{highest, judged, judge, verdictBelow, verdict, answers}
 use Rattle.lines.specs.Decimal.{digitsBelow, decimal}
-use Rattle.lines.specs.Lines.{item, cycles, meshLine, told, flowLine, refusalLine, textBy, textOf}
+use Rattle.lines.specs.Lines.{item, meshStart, meshLine, told, flowLine, refusalLine, textBy, textOf}
 
 -- The method's digit stands at the end of P's first line.
 abbrev meshOf : ℕ → List ℕ
@@ -59,5 +59,5 @@ abbrev printed : List (List ℕ)
 printed = (meshOf 51 ++ flowsOfP) ∷ (meshOf 51 ++ lateText) ∷ meshOf 50 ∷ cutText ∷ bufferText ∷ []
 
 texts : map textOf offered ≡ printed
-unfolding tagOf headerAt taggedAt frameAt fieldsFrom clashAt tailAt restAt _then_ bodyAt recordAt accepted refused after records readPlan _when_else_ hops along xy on domain first-from up sumOver comesToFrom comesTo methodUsed latency directFor indirectFor comesBefore those allowance weight term terms highest judged judge verdictBelow verdict answers each digitsBelow decimal item cycles meshLine told flowLine refusalLine textBy
+unfolding tagOf headerAt taggedAt frameAt fieldsFrom clashAt tailAt restAt _then_ bodyAt recordAt accepted refused after records readPlan _when_else_ hops along xy on domain first-from up sumOver comesToFrom comesTo methodUsed latency directFor indirectFor comesBefore those allowance weight term terms highest judged judge verdictBelow verdict answers each digitsBelow decimal item meshStart meshLine told flowLine refusalLine textBy
 texts = refl

@@ -8,34 +8,26 @@ use Rattle.plan.specs.declared.Plan.{Plan}
 use Rattle.plan.specs.declared.Outcome.{Outcome}
 use Rattle.plan.specs.declared.Outcome.the-variants.{Accepted, Refused}
 use Rattle.plan.specs.Reading.{readPlan}
-use Rattle.model.specs.declared.Method.{Method}
-use Rattle.model.specs.declared.Method.the-variants.{SB, XLWX, IBN}
 use Rattle.model.specs.declared.Verdict.{Verdict}
 use Rattle.model.specs.declared.Verdict.the-variants.{Bounded, Late, Waits}
 use Rattle.model.specs.declared.Answer.{Answer}
-use Rattle.model.specs.Latency.{methodUsed}
+use Rattle.model.specs.Latency.{methodUsed, methodNumber}
 use Rattle.model.specs.Verdicts.{answers}
 use Rattle.lines.specs.declared.Text.{Text}
 use Rattle.lines.specs.Words.{meshWord, byWord, linkWord, routeWord, bufferWord, methodWord, boundedWord, lateWord, waitsWord, roundsWord, refusedWord, atWord, lineEnd}
 use Rattle.lines.specs.Decimal.{decimal}
-
--- "Method 1 is SB, 2 is XLWX, 3 is IBN"
-abbrev pub methodNumber : Method → ℕ
-methodNumber SB = 1
-methodNumber XLWX = 2
-methodNumber IBN = 3
 
 -- A fixed word and the number behind it.
 unfoldable pub item : List ℕ → ℕ → List ℕ
 item word n = word ++ decimal n
 
 -- "First the mesh: columns by rows, link cycles, routing cycles,
-unfoldable pub cycles : Platform → List ℕ
-cycles p = (item meshWord (p .columns) ++ item byWord (p .rows)) ++ (item linkWord (p .link) ++ item routeWord (p .routing))
+unfoldable pub meshStart : Platform → List ℕ
+meshStart p = (item meshWord (p .columns) ++ item byWord (p .rows)) ++ (item linkWord (p .link) ++ item routeWord (p .routing))
 
 -- buffer flits, the method really used."
 unfoldable pub meshLine : Platform → List ℕ
-meshLine p = cycles p ++ (item bufferWord (p .buffer) ++ item methodWord (methodNumber (methodUsed p))) ++ lineEnd
+meshLine p = meshStart p ++ (item bufferWord (p .buffer) ++ item methodWord (methodNumber (methodUsed p))) ++ lineEnd
 
 -- "after `bounded` the bound and rounds, after `late` the rounds, after `waits` the named id"
 unfoldable pub told : Verdict → List ℕ

@@ -2,8 +2,8 @@
 ghost use mathlib.Core.Path.{_≡_};
 ghost use Prim.Native.Nat.{_+_, _≤_};
 ghost use lib.ListN.{length};
-ghost use Rattle.model.specs.Latency.{methodUsed};
-ghost use Rattle.lines.specs.Lines.{methodNumber, cycles, meshLine, told, flowLine, refusalLine};
+ghost use Rattle.model.specs.Latency.{methodUsed, methodNumber};
+ghost use Rattle.lines.specs.Lines.{meshStart, meshLine, told, flowLine, refusalLine};
 ghost use Rattle.lines.specs.Written.{Written};
 use crate::number::put_item;
 use crate::number::put_number;
@@ -59,9 +59,9 @@ fn method_printed(p: Platform) -> u8
 }
 
 // Each writer returns the place behind what it wrote.
-fn put_cycles(out: &mut [u8], at: usize, p: Platform) -> usize
+fn put_mesh_start(out: &mut [u8], at: usize, p: Platform) -> usize
     requires { ⌜ at + 80 ≤ length (now out) ⌝ }
-    ensures { λ r. ⌜ Written (now (out .entry)) at (cycles p) (now (out .exit)) r × (r ≤ at + 59) ⌝ }
+    ensures { λ r. ⌜ Written (now (out .entry)) at (meshStart p) (now (out .exit)) r × (r ≤ at + 59) ⌝ }
 {
     let size = put_two(out, at, &MESH, p.columns as u32, &BY, p.rows as u32);
     put_two(out, size, &LINK, p.link as u32, &ROUTE, p.routing as u32)
@@ -71,9 +71,9 @@ pub(crate) fn put_mesh(out: &mut [u8], at: usize, p: Platform) -> usize
     requires { ⌜ at + 110 ≤ length (now out) ⌝ }
     ensures { λ r. ⌜ Written (now (out .entry)) at (meshLine p) (now (out .exit)) r × (r ≤ at + 96) ⌝ }
 {
-    let cycles = put_cycles(out, at, p);
+    let start = put_mesh_start(out, at, p);
     let method = method_printed(p) as u32;
-    let next = put_two(out, cycles, &BUFFER, p.buffer as u32, &METHOD, method);
+    let next = put_two(out, start, &BUFFER, p.buffer as u32, &METHOD, method);
     copy_in(out, next, &LINE_END)
 }
 

@@ -11,7 +11,7 @@ pub record Node (columns n : ℕ) : Type 0 where
   pub high : rows ≤ 8
   pub inside : n < columns * rows
 
--- The two ends of a flow are nodes of the mesh.
+-- The two ends of a flow are nodes; each may bring its own count of rows.
 pub record Ends (columns source destination : ℕ) : Type 0 where
   pub from : Node columns source
   pub to : Node columns destination

@@ -11,11 +11,12 @@ use Rattle.mesh.specs.Shared.{on, domain, first-from}
 use Rattle.recurrence.specs.Rounding.{up}
 use Rattle.recurrence.specs.Sums.{sumOver}
 use Rattle.recurrence.specs.ComesTo.{comesToFrom, comesTo}
+use Rattle.model.specs.declared.Method.{Method}
 use Rattle.model.specs.declared.Method.the-variants.{SB, XLWX, IBN}
 use Rattle.model.specs.declared.Verdict.{Verdict}
 use Rattle.model.specs.declared.Verdict.the-variants.{Bounded, Late, Waits}
 use Rattle.model.specs.Links.{pairOf}
-use Rattle.model.specs.Latency.{methodUsed, latency}
+use Rattle.model.specs.Latency.{methodUsed, methodNumber, latency}
 use Rattle.model.specs.Interference.{directFor, indirectFor, comesBefore, those}
 use Rattle.model.specs.Delays.{allowance, weight, term, terms}
 use Rattle.model.specs.Verdicts.{highest, judged, judge, verdictBelow, verdict, answers}
@@ -47,6 +48,18 @@ example p fs vs = record { platform = p; flows = fs; verdicts = vs }
 methods : map (λ m. methodUsed (line 1 m)) (0 ∷ 1 ∷ 2 ∷ 3 ∷ []) ≡ XLWX ∷ SB ∷ XLWX ∷ IBN ∷ []
 unfolding methodUsed _when_else_
 methods = refl
+
+-- "Method 1 is SB, 2 is XLWX, 3 is IBN": a method's number asks for it.
+numbers : (m : Method) → methodUsed (line 1 (methodNumber m)) ≡ m
+unfolding methodUsed _when_else_
+numbers SB = refl
+numbers XLWX = refl
+numbers IBN = refl
+
+-- "This agrees with Table V of 002 with link cycles 1 and routing cycles 0": 62 (60 flits, 3 links), 204 (198, 7), 132 (128, 5).
+table-V : (latency (line 10 3) (flow 2 1 4 5 60 200 200 0) ≡ 62) × (latency (line 10 3) (flow 3 2 0 5 198 4000 4000 0) ≡ 204) × (latency (line 10 3) (flow 5 3 1 4 128 6000 6000 0) ≡ 132)
+unfolding latency hops along xy
+table-V = (refl, refl, refl)
 
 -- C with link cycles 3 and routing cycles 2: on a line, with 4 links, 3 x (10 + 4 - 1) + 2 x (4 - 1); over a corner, with 5, 3 x (10 + 5 - 1) + 2 x (5 - 1).
 latencies :

@@ -25,11 +25,12 @@ upstreamFor p i j k = indirectFor p i j k && comesBefore p i j k
 abbrev pub downstreamFor : Platform → Flow → Flow → Flow → Bool
 downstreamFor p i j k = indirectFor p i j k && not (comesBefore p i j k)
 
--- The flows of a plan that pass a test, in plan order.
+-- A flow in front of others, if it passes.
 abbrev pub keep : Bool → Flow → List Flow → List Flow
 keep true f rest = f ∷ rest
 keep false f rest = rest
 
+-- The flows of a plan that pass a test, in plan order.
 unfoldable pub those : (Flow → Bool) → List Flow → List Flow
 those test [] = []
 those test (f ∷ fs) = keep (test f) f (those test fs)

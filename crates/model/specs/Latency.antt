@@ -21,6 +21,12 @@ methodUsed p =
     IBN when eqb (p .method) 3 else
     houseDefault
 
+-- "Method 1 is SB, 2 is XLWX, 3 is IBN": a method's number.
+abbrev pub methodNumber : Method → ℕ
+methodNumber SB = 1
+methodNumber XLWX = 2
+methodNumber IBN = 3
+
 -- The flits that the unloaded latency is worked out from.
 abbrev pub flitsSent : Platform → Flow → ℕ
 flitsSent p f = f .flits

@@ -61,10 +61,11 @@ packetsIn p fs answer i = total (termsOf p fs answer i)
 abbrev pub holdsUp : Platform → (Flow → Verdict) → Flow → Flow → Bool
 holdsUp p answer i j = directFor p i j && not (isBounded (answer j))
 
--- "the unbounded direct flow of highest priority": the flow of highest priority of a list, if it has any, behind one found before.
+-- The one of higher priority.
 abbrev pub higher : Flow → Flow → Flow
 higher f g = cond (ltb (g .priority) (f .priority)) g f
 
+-- "the unbounded direct flow of highest priority": of the one found so far, if any, and those of a list.
 unfoldable pub highest : Option Flow → List Flow → Option Flow
 highest found [] = found
 highest none (f ∷ fs) = highest (some f) fs
@@ -83,7 +84,7 @@ judged p fs answer i none = settledVerdict (comesTo (recurrenceOf p fs answer i)
 unfoldable pub judge : Platform → List Flow → (Flow → Verdict) → Flow → Verdict
 judge p fs answer i = judged p fs answer i (highest none (those (holdsUp p answer i) fs))
 
--- The verdict of a flow whose priority number is below n: its direct flows' numbers are smaller yet.
+-- The verdict of a flow whose priority number is below n: its direct flows' numbers are smaller yet. With n = 0 there is no such flow.
 unfoldable pub verdictBelow : ℕ → Platform → List Flow → Flow → Verdict
 verdictBelow zero p fs i = Late 0
 verdictBelow (suc n) p fs i = judge p fs (verdictBelow n p fs) i

@@ -16,6 +16,6 @@ pub record Scene (p : Platform) (flows : List Flow) (count : ℕ) : Type 0 where
   pub legal : Legal p (take count flows)
 
 -- The pair table's row of a flow i.
-pub record RowOf (p : Platform) (flows : List Flow) (count : ℕ) (i : Flow) (row : List Pair) : Type 0 where
+pub record HasRow (p : Platform) (flows : List Flow) (count : ℕ) (i : Flow) (row : List Pair) : Type 0 where
   pub room : length row ≡ 64
   pub cell : (k : ℕ) → k < count → getD row k noPair ≡ pairOf p i (flow flows k)

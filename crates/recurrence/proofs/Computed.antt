@@ -1,4 +1,4 @@
--- There is exactly one allowed comesTo, and `comesTo` computes it.
+-- There is exactly one allowed outcome, and `comesTo` computes it.
 use Prim.Native.Nat.{ℕ, zero, suc, _+_, _-_, _<_}
 use mathlib.Core.Path.{_≡_, refl, ap, ap₂, subst}
 use mathlib.Core.Logic.{_↔_}

@@ -4,7 +4,7 @@ use mathlib.Core.List.{List, [], _∷_, _++_}
 use lib.ListN.{getD}
 use Rattle.recurrence.specs.Recurrence.{Term}
 
--- A period is kept as its last cycle, counted from 0, and a shift as its end, with that cycle added.
+-- A period p is kept as last = p - 1, and a shift s as end = s + (p - 1), so that up((x + s) / p) is (x + end) / (last + 1).
 abbrev pub held : ℕ → ℕ → ℕ → Term
 held end last weight = record { shift = end - last; period = last + 1; weight = weight }
 

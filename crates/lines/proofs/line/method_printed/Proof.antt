@@ -1,7 +1,7 @@
 use mathlib.Core.Path.{ap, _∙_}
 use borrow.Author.Needs.{needs}
 use Rattle.lines.proofs.line.method_printed.Statement.{statement}
-use Rattle.lines.specs.Lines.{methodNumber}
+use Rattle.model.specs.Latency.{methodNumber}
 use Rattle.lines.proofs.line.method_printed.Tie as tie
 
 method-used-requires : tie.Need-method-used-requires

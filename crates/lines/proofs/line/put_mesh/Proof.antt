@@ -6,8 +6,8 @@ use Rattle.lines.proofs.Chain.{copied, chain}
 use Rattle.lines.proofs.line.put_mesh.Statement.{statement}
 use Rattle.lines.proofs.line.put_mesh.Tie as tie
 
-put-cycles-requires : tie.Need-put-cycles-requires
-put-cycles-requires c κs = search needs
+put-mesh-start-requires : tie.Need-put-mesh-start-requires
+put-mesh-start-requires c κs = search needs
 
 method-printed-requires : tie.Need-method-printed-requires
 method-printed-requires c κs = search needs
@@ -39,7 +39,7 @@ same-length c = search needs
 returns : tie.Need-returns
 unfolding meshLine
 returns c =
-    let cycles = c .before .before .before .before .before .before .before .before .before .before .before .before .before .before .before .put-cycles .ensures in
+    let cycles = c .before .before .before .before .before .before .before .before .before .before .before .before .before .before .before .put-mesh-start .ensures in
     let method = c .before .before .before .before .before .before .before .put-two .ensures in
     let end = copied _ _ _ (search needs) (c .before .before .copy-in .ensures) in
     rw (← (c .before .before .before .before .before .before .before .before .before .before .before .before .method-printed .ensures)) (chain (chain (cycles .0) (method .0)) end, omega (arith, cycles .1, method .1, end .next-is))
@@ -48,7 +48,7 @@ pub put-mesh-spec : {M : Type 1} → statement M
 put-mesh-spec =
     tie.close
     (tie.spec
-    put-cycles-requires
+    put-mesh-start-requires
     method-printed-requires
     cast-method
     slice-aggregate-put-two

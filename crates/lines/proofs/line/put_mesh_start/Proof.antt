@@ -1,10 +1,10 @@
--- `lines::line::put_cycles` meets its contract.
+-- `lines::line::put_mesh_start` meets its contract.
 use native.Mathlib.Omega.{arith}
 use borrow.Author.Needs.{needs}
-use Rattle.lines.specs.Lines.{cycles}
+use Rattle.lines.specs.Lines.{meshStart}
 use Rattle.lines.proofs.Chain.{chain}
-use Rattle.lines.proofs.line.put_cycles.Statement.{statement}
-use Rattle.lines.proofs.line.put_cycles.Tie as tie
+use Rattle.lines.proofs.line.put_mesh_start.Statement.{statement}
+use Rattle.lines.proofs.line.put_mesh_start.Tie as tie
 
 slice-aggregate-put-two : tie.Need-slice-aggregate-put-two
 slice-aggregate-put-two c = search needs
@@ -40,14 +40,14 @@ same-length : tie.Need-same-length
 same-length c = search needs
 
 returns : tie.Need-returns
-unfolding cycles
+unfolding meshStart
 returns c =
     let size = c .before .before .before .before .before .before .before .before .before .before .put-two .ensures in
     let cycles = c .before .before .put-two2 .ensures in
     (chain (size .0) (cycles .0), omega (arith, size .1, cycles .1))
 
-pub put-cycles-spec : {M : Type 1} → statement M
-put-cycles-spec =
+pub put-mesh-start-spec : {M : Type 1} → statement M
+put-mesh-start-spec =
     tie.close
     (tie.spec
     slice-aggregate-put-two
