@@ -1,6 +1,6 @@
 -- Document 01, "The plan's bytes": the table of records and their fields, a line here for a line there.
 use Prim.Native.Nat.{ℕ}
-use mathlib.Core.List.{List, [], _∷_}
+use mathlib.Core.List.{List, [], _∷_, _++_}
 use lib.Dec.{eqb}
 use Rattle.framing.specs.First.{_when_else_}
 use Rattle.framing.specs.declared.numbers.Width.{Width}
@@ -67,11 +67,14 @@ highestOf f = f .2
 abbrev pub refusalOf : Field → ℕ
 refusalOf f = f .3
 
--- How many fields a record has, and where they begin in the lines of all records; what stands behind the last line.
+-- How many fields a record has; the lines of all records, and where those of one begin; what stands behind the last.
 abbrev pub fieldCount : Kind → ℕ
 fieldCount PlatformRecord = 6
 fieldCount FlowRecord = 8
 fieldCount EndRecord = 0
+
+abbrev pub lines : List Field
+lines = platformFields ++ flowFields
 
 abbrev pub firstLine : Kind → ℕ
 firstLine PlatformRecord = 0

@@ -2,7 +2,7 @@
 ghost use mathlib.Core.Path.{_≡_};
 ghost use Prim.Native.Nat.{_<_};
 ghost use lib.ListN.{getD};
-ghost use Rattle.plan.specs.Table.{tagOf, bodyLength, fieldCount, firstLine, fieldsOf, noField};
+ghost use Rattle.plan.specs.Table.{tagOf, bodyLength, fieldCount, firstLine, fieldsOf, lines, noField};
 use framing::numbers::Width;
 
 // The records of a plan.
@@ -27,23 +27,6 @@ pub enum Limit {
 
 // Bytes, lowest value, highest value, and the refusal of a value outside them.
 pub struct Field(pub Width, pub u32, pub Limit, pub u8);
-
-const FIELDS: [Field; 14] = [
-    Field(Width::One, 1, Limit::UpTo(8), 5), // columns
-    Field(Width::One, 1, Limit::UpTo(8), 5), // rows
-    Field(Width::One, 1, Limit::UpTo(16), 5), // link cycles
-    Field(Width::One, 0, Limit::UpTo(16), 5), // routing cycles
-    Field(Width::One, 1, Limit::UpTo(64), 5), // buffer flits
-    Field(Width::One, 0, Limit::UpTo(3), 5), // method
-    Field(Width::Two, 0, Limit::UpTo(65534), 5), // id
-    Field(Width::Two, 1, Limit::UpTo(65535), 5), // priority
-    Field(Width::One, 0, Limit::BelowNodes, 5), // source
-    Field(Width::One, 0, Limit::BelowNodes, 5), // destination
-    Field(Width::Two, 1, Limit::UpTo(65535), 5), // flits
-    Field(Width::Four, 1, Limit::UpTo(1_000_000_000), 5), // period
-    Field(Width::Four, 1, Limit::UpToPeriod, 5), // deadline
-    Field(Width::Four, 0, Limit::UpTo(1_000_000_000), 5), // jitter
-];
 
 pub(crate) fn tag_of(byte: u8) -> Tag
     ensures { λ r. ⌜ r ≡ tagOf byte ⌝ }
@@ -87,9 +70,32 @@ fn first_line(kind: Kind) -> usize
     }
 }
 
+// The table's lines, those of a platform and then those of a flow.
+fn field_at(line: usize) -> Field
+    requires { ⌜ line < 14 ⌝ }
+    ensures { λ r. ⌜ r ≡ getD lines line noField ⌝ }
+{
+    match line {
+        0 => Field(Width::One, 1, Limit::UpTo(8), 5), // columns
+        1 => Field(Width::One, 1, Limit::UpTo(8), 5), // rows
+        2 => Field(Width::One, 1, Limit::UpTo(16), 5), // link cycles
+        3 => Field(Width::One, 0, Limit::UpTo(16), 5), // routing cycles
+        4 => Field(Width::One, 1, Limit::UpTo(64), 5), // buffer flits
+        5 => Field(Width::One, 0, Limit::UpTo(3), 5), // method
+        6 => Field(Width::Two, 0, Limit::UpTo(65534), 5), // id
+        7 => Field(Width::Two, 1, Limit::UpTo(65535), 5), // priority
+        8 => Field(Width::One, 0, Limit::BelowNodes, 5), // source
+        9 => Field(Width::One, 0, Limit::BelowNodes, 5), // destination
+        10 => Field(Width::Two, 1, Limit::UpTo(65535), 5), // flits
+        11 => Field(Width::Four, 1, Limit::UpTo(1_000_000_000), 5), // period
+        12 => Field(Width::Four, 1, Limit::UpToPeriod, 5), // deadline
+        _ => Field(Width::Four, 0, Limit::UpTo(1_000_000_000), 5), // jitter
+    }
+}
+
 pub(crate) fn field_of(kind: Kind, k: usize) -> Field
     requires { ⌜ k < fieldCount kind ⌝ }
     ensures { λ r. ⌜ r ≡ getD (fieldsOf kind) k noField ⌝ }
 {
-    FIELDS[first_line(kind) + k]
+    field_at(first_line(kind) + k)
 }
