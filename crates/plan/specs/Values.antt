@@ -43,9 +43,9 @@ periodAt s at EndRecord = 0
 abbrev pub limitsAt : List ℕ → ℕ → Kind → Platform → Limits
 limitsAt s at kind p = record { nodes = p .columns * p .rows; period = periodAt s at kind }
 
--- What stands in a refused plan, and in a plan's array behind its flows: an id that no flow has.
+-- What stands in a refused plan, and in a plan's array behind its flows: zeros, and no flow has priority 0.
 abbrev pub blankPlatform : Platform
 blankPlatform = record { columns = 0; rows = 0; link = 0; routing = 0; buffer = 0; method = 0 }
 
 abbrev pub blankFlow : Flow
-blankFlow = record { id = 65535; priority = 0; source = 0; destination = 0; flits = 0; period = 0; deadline = 0; jitter = 0 }
+blankFlow = record { id = 0; priority = 0; source = 0; destination = 0; flits = 0; period = 0; deadline = 0; jitter = 0 }

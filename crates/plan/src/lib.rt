@@ -48,7 +48,7 @@ pub struct Flow {
 // Room for the flows of a plan.
 pub type Flows = [Flow; 64];
 
-// The flows are the first `count`; blanks, whose id no flow has, stand behind them.
+// The flows are the first `count`; blanks, whose priority no flow has, stand behind them.
 pub struct Plan {
     pub platform: Platform,
     pub flows: Flows,
