@@ -103,11 +103,11 @@ module _ (s u : List ℕ) (agree : (i : ℕ) → i < 1504 → oneAt s i ≡ oneA
     limits FlowRecord p = ap (λ (f : Flow). record { nodes = p .columns * p .rows; period = f .period }) flow
     limits EndRecord p = refl
 
-    rest : (kind : Kind) (fs : List Flow) → restAt s at kind fs ≡ restAt u at kind fs
+    rest : (kind : Kind) (ids priorities : List ℕ) → restAt s at kind ids priorities ≡ restAt u at kind ids priorities
     unfolding restAt tailAt
-    rest PlatformRecord fs = refl
-    rest FlowRecord fs = ap (λ (f : Flow). clashAt at f fs) flow
-    rest EndRecord fs = rw (lt-ltb (at + 3) (length s) (omega arith), lt-ltb (at + 3) (length u) (omega arith))
+    rest PlatformRecord ids priorities = refl
+    rest FlowRecord ids priorities = ap (λ (f : Flow). clashAt at f ids priorities) flow
+    rest EndRecord ids priorities = rw (lt-ltb (at + 3) (length s) (omega arith), lt-ltb (at + 3) (length u) (omega arith))
 
     behind : (c : Checked) (p : Platform) (fs : List Flow) → bodyAt s at c p fs ≡ bodyAt u at c p fs
     unfolding bodyAt
@@ -115,7 +115,7 @@ module _ (s u : List ℕ) (agree : (i : ℕ) → i < 1504 → oneAt s i ≡ oneA
     behind (Passed kind) p fs =
         ap₂ _then_
         (ap (λ (l : Limits). fieldsFrom s at kind l 3 (fieldsOf kind)) (limits kind p) ∙ fields kind (limitsAt u at kind p) 3 (fieldsOf kind) (omega (arith, filled kind, body-small kind)))
-        (rest kind fs)
+        (rest kind _ _)
 
     same-record : (p : Platform) (fs : List Flow) → recordAt s at p fs ≡ recordAt u at p fs
     unfolding recordAt

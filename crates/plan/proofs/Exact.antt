@@ -3,7 +3,7 @@ use Prim.Native.Nat.{ℕ, zero, suc, _+_, _-_, _*_, _≤_, _<_}
 use native.Mathlib.Omega.{arith}
 use mathlib.Core.Path.{_≡_, refl, sym, ap, _∙_}
 use mathlib.Core.Bool.{false}
-use mathlib.Core.List.{List, [], _∷_, _++_}
+use mathlib.Core.List.{List, [], _∷_, _++_, map}
 use mathlib.Core.Logic.{_↔_}
 use lib.ListN.{length, take}
 use lib.Seq.{take-at, take-all, take-suc, length-take-le, getD-take}
@@ -13,7 +13,7 @@ use Rattle.framing.specs.First.{_when_else_}
 use Rattle.framing.specs.Header.{lengthAt}
 use Rattle.plan.specs.Table.{bodyLength, fieldsOf}
 use Rattle.plan.specs.Values.{flowAt, limitsAt, blankPlatform, blankFlow}
-use Rattle.plan.specs.Checks.{misplaced, noRoom, headerAt, taggedAt, frameAt, some, clashAt, tailAt, restAt, recordAt}
+use Rattle.plan.specs.Checks.{misplaced, noRoom, headerAt, taggedAt, frameAt, idsOf, prioritiesOf, taken, clashAt, tailAt, restAt, recordAt}
 use Rattle.plan.specs.Reading.{accepted, refused, records, readPlan}
 use Rattle.plan.specs.Padded.{padded}
 use Rattle.plan.specs.Legal.{Distinct, Legal, flow}
@@ -56,12 +56,12 @@ module _ (s : List ℕ) (p : Platform) (fs : List Flow) (laid : Laid s p fs) (le
     many = length-take-le k fs (omega arith)
 
     -- none of the flows before has this flow's value
-    unlike : (value : Flow → ℕ) → Distinct value fs → some (λ g. eqb (value g) (value (flow fs k))) (take k fs) ≡ false
+    unlike : (value : Flow → ℕ) → Distinct value fs → taken (map value (take k fs)) (value (flow fs k)) ≡ false
     unlike value d =
-        found-none (λ g. eqb (value g) (value (flow fs k))) (take k fs)
+        found-none value (value (flow fs k)) (take k fs)
         (λ j h. let b : j < k = omega (arith, many) in rw (getD-take k fs j blankFlow b) (ne-eqb (value (flow fs j)) (value (flow fs k)) (d j k b l)))
 
-    clash-passes : clashAt (place k) (flow fs k) (take k fs) ≡ Passed FlowRecord
+    clash-passes : clashAt (place k) (flow fs k) (idsOf (take k fs)) (prioritiesOf (take k fs)) ≡ Passed FlowRecord
     unfolding clashAt _when_else_
     clash-passes = rw (ne-eqb (flow fs k .source) (flow fs k .destination) (legal .each k l .moves), unlike (λ f. f .id) (legal .ids), unlike (λ f. f .priority) (legal .priorities))
 
@@ -72,7 +72,7 @@ module _ (s : List ℕ) (p : Platform) (fs : List Flow) (laid : Laid s p fs) (le
         record-rest s (place k) p (take k fs)
         (frame-passes s (place k) FlowRecord (length (take k fs)) (laid .each k l .0) (behind k) (omega (arith, laid .nothing-else)) (lt-leb 64 (length (take k fs)) (omega (arith, many, legal .few))))
         (allowed-passed s (place k) FlowRecord (limitsAt s (place k) FlowRecord p) 3 (fieldsOf FlowRecord) (legal-flow s (place k) p (rw e (legal .each k l))))
-        ∙ ap (λ (f : Flow). clashAt (place k) f (take k fs)) e
+        ∙ ap (λ (f : Flow). clashAt (place k) f (idsOf (take k fs)) (prioritiesOf (take k fs))) e
         ∙ clash-passes
 
   end-passes : recordAt s (place (length fs)) p fs ≡ Passed EndRecord

@@ -4,28 +4,29 @@ use native.Mathlib.Omega.{arith}
 use native.Mathlib.Nat.{le-of-suc-le-suc}
 use native.Mathlib.Decide.{ℕ-discrete}
 use mathlib.Core.Path.{_≡_, refl}
-use mathlib.Core.Bool.{Bool, false}
-use mathlib.Core.List.{List, [], _∷_, _++_}
+use mathlib.Core.Bool.{false}
+use mathlib.Core.List.{List, [], _∷_, _++_, map}
 use lib.ListN.{length, length-append, List·getD-append}
 use lib.Seq.{getD-append-seam}
 use lib.Dec.{eqb}
 use borrow.Author.Tests.{eqb-false}
 use Rattle.plan.specs.Values.{blankFlow}
-use Rattle.plan.specs.Checks.{some}
+use Rattle.plan.specs.Checks.{idsOf, prioritiesOf, taken}
 use Rattle.plan.specs.Legal.{LegalFlow, flow, Distinct, Legal}
 use Rattle.plan.specs.declared.Platform.{Platform}
 use Rattle.plan.specs.declared.Flow.{Flow}
 use Rattle.plan.proofs.Fields.{neither}
 
 -- what a search that found nothing says of each flow, and the other way round
-pub none-found : (test : Flow → Bool) (fs : List Flow) → some test fs ≡ false → (k : ℕ) → k < length fs → test (flow fs k) ≡ false
-none-found test [] e k h = absurd (omega arith)
-none-found test (f ∷ fs) e zero h = neither (test f) _ e .0
-none-found test (f ∷ fs) e (suc k) h = none-found test fs (neither (test f) _ e .1) k (le-of-suc-le-suc h)
+module _ (value : Flow → ℕ) (v : ℕ) where
+  none-found : (fs : List Flow) → taken (map value fs) v ≡ false → (k : ℕ) → k < length fs → eqb (value (flow fs k)) v ≡ false
+  none-found [] e k h = absurd (omega arith)
+  none-found (f ∷ fs) e zero h = neither (eqb (value f) v) _ e .0
+  none-found (f ∷ fs) e (suc k) h = none-found fs (neither (eqb (value f) v) _ e .1) k (le-of-suc-le-suc h)
 
-pub found-none : (test : Flow → Bool) (fs : List Flow) → ((k : ℕ) → k < length fs → test (flow fs k) ≡ false) → some test fs ≡ false
-found-none test [] h = refl
-found-none test (f ∷ fs) h = rw (h 0 (omega arith), found-none test fs (λ k l. h (suc k) (omega arith)))
+  pub found-none : (fs : List Flow) → ((k : ℕ) → k < length fs → eqb (value (flow fs k)) v ≡ false) → taken (map value fs) v ≡ false
+  found-none [] h = refl
+  found-none (f ∷ fs) h = rw (h 0 (omega arith), found-none fs (λ k l. h (suc k) (omega arith)))
 
 module _ (fs : List Flow) (f : Flow) where
   pub longer : length (fs ++ f ∷ []) ≡ length fs + 1
@@ -45,17 +46,17 @@ module _ (fs : List Flow) (f : Flow) where
       go (yes e) = rw (e, newest) new
       go (no n) = let b : k < length fs = omega (arith, longer) in rw (earlier k b) (old k b)
 
-  distinct-more : (value : Flow → ℕ) → Distinct value fs → some (λ g. eqb (value g) (value f)) fs ≡ false → Distinct value (fs ++ f ∷ [])
+  distinct-more : (value : Flow → ℕ) → Distinct value fs → taken (map value fs) (value f) ≡ false → Distinct value (fs ++ f ∷ [])
   distinct-more value old new j k l h = go (ℕ-discrete k (length fs))
     where
       go : Dec (k ≡ length fs) → value (flow (fs ++ f ∷ []) j) ≡ value (flow (fs ++ f ∷ []) k) → ⊥
-      go (yes e) = let b : j < length fs = omega arith in rw (earlier j b, e, newest) (eqb-false (value (flow fs j)) (value f) (none-found (λ g. eqb (value g) (value f)) fs new j b))
+      go (yes e) = let b : j < length fs = omega arith in rw (earlier j b, e, newest) (eqb-false (value (flow fs j)) (value f) (none-found value (value f) fs new j b))
       go (no n) =
           let b : k < length fs = omega (arith, longer) in
           let a : j < length fs = omega arith in
           rw (earlier j a, earlier k b) (old j k l b)
 
-  pub legal-more : (p : Platform) → Legal p fs → length fs < 64 → LegalFlow p f → some (λ g. eqb (g .id) (f .id)) fs ≡ false → some (λ g. eqb (g .priority) (f .priority)) fs ≡ false → Legal p (fs ++ f ∷ [])
+  pub legal-more : (p : Platform) → Legal p fs → length fs < 64 → LegalFlow p f → taken (idsOf fs) (f .id) ≡ false → taken (prioritiesOf fs) (f .priority) ≡ false → Legal p (fs ++ f ∷ [])
   legal-more p w room legal i q = record {
     platform = w .platform;
     few = omega (arith, longer);

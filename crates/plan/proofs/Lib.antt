@@ -3,6 +3,7 @@ mod Searches
 mod Fits
 mod Rests
 pub mod Padding
+mod Columns
 mod Order
 mod Scan
 mod Turns

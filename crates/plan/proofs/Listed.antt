@@ -84,25 +84,25 @@ module _ (s : List ℕ) where
     unfolding tailAt
     tail h = chain _ 10 (at + 3) _ (omega arith, omega arith) h tt
 
-    clash : (f : Flow) (fs : List Flow) → at + 23 ≤ length s → Listed (clashAt at f fs)
+    clash : (f : Flow) (ids priorities : List ℕ) → at + 23 ≤ length s → Listed (clashAt at f ids priorities)
     unfolding clashAt
-    clash f fs h =
+    clash f ids priorities h =
         chain _ 9 (at + 8) _ (omega arith, omega arith) (omega arith)
         (chain _ 7 (at + 3) _ (omega arith, omega arith) (omega arith)
         (chain _ 8 (at + 5) _ (omega arith, omega arith) (omega arith) tt))
 
-    rest : (kind : Kind) (fs : List Flow) → at + 3 + bodyLength kind ≤ length s → Listed (restAt s at kind fs)
+    rest : (kind : Kind) (ids priorities : List ℕ) → at + 3 + bodyLength kind ≤ length s → Listed (restAt s at kind ids priorities)
     unfolding restAt
-    rest PlatformRecord fs h = tt
-    rest FlowRecord fs h = clash (flowAt s at) fs (omega arith)
-    rest EndRecord fs h = tail (omega arith)
+    rest PlatformRecord ids priorities h = tt
+    rest FlowRecord ids priorities h = clash (flowAt s at) ids priorities (omega arith)
+    rest EndRecord ids priorities h = tail (omega arith)
 
     body : (c : Checked) (p : Platform) (fs : List Flow) → frameAt s at (length fs) ≡ c → Listed c → Listed (bodyAt s at c p fs)
     unfolding bodyAt
     body (Fault number place) p fs e w = w
     body (Passed kind) p fs e w =
         let h = framed s at (length fs) e .whole in
-        follow _ _ (fields at kind (limitsAt s at kind p) 3 (fieldsOf kind) (fields-numbered kind) (omega (arith, filled kind))) (rest kind fs h)
+        follow _ _ (fields at kind (limitsAt s at kind p) 3 (fieldsOf kind) (fields-numbered kind) (omega (arith, filled kind))) (rest kind _ _ h)
 
     pub fault-listed : (p : Platform) (fs : List Flow) → at ≤ length s → Listed (recordAt s at p fs)
     unfolding recordAt

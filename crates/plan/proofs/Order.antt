@@ -11,7 +11,7 @@ use Rattle.framing.specs.First.{_when_else_}
 use Rattle.framing.specs.Header.{tagAt, lengthAt}
 use Rattle.plan.specs.Table.{tagOf, bodyLength}
 use Rattle.plan.specs.Values.{platformAt, flowAt}
-use Rattle.plan.specs.Checks.{isPlatform, misplaced, noRoom, headerAt, taggedAt, frameAt, fieldsAt, clashAt, tailAt, restAt, _then_, bodyAt, recordAt}
+use Rattle.plan.specs.Checks.{isPlatform, misplaced, noRoom, headerAt, taggedAt, frameAt, fieldsAt, clashAt, tailAt, idsOf, prioritiesOf, restAt, _then_, bodyAt, recordAt}
 use Rattle.plan.specs.Reading.{accepted, refused, after, records}
 use Rattle.plan.specs.declared.Platform.{Platform}
 use Rattle.plan.specs.declared.Flow.{Flow}
@@ -84,17 +84,17 @@ pub others-later : {s : List ℕ} {at count : ℕ} (kind : Kind) → isPlatform 
 others-later {at} kind e w = eqb-false at 0 (first-only (eqb at 0) kind (w .place) ∙ e)
 
 -- ---- what stands behind the fields leaves the kind of record as it is
-pub rest-kind : (s : List ℕ) (at : ℕ) (kind : Kind) (fs : List Flow) {found : Kind} → restAt s at kind fs ≡ Passed found → found ≡ kind
+pub rest-kind : (s : List ℕ) (at : ℕ) (kind : Kind) (ids priorities : List ℕ) {found : Kind} → restAt s at kind ids priorities ≡ Passed found → found ≡ kind
 unfolding restAt clashAt tailAt
-rest-kind s at PlatformRecord fs e = cc
-rest-kind s at FlowRecord fs e = let t = passed _ _ _ _ (passed _ _ _ _ (passed _ _ _ _ e .1) .1) .1 in cc
-rest-kind s at EndRecord fs e = let t = passed _ _ _ _ e .1 in cc
+rest-kind s at PlatformRecord ids priorities e = cc
+rest-kind s at FlowRecord ids priorities e = let t = passed _ _ _ _ (passed _ _ _ _ (passed _ _ _ _ e .1) .1) .1 in cc
+rest-kind s at EndRecord ids priorities e = let t = passed _ _ _ _ e .1 in cc
 
 -- ---- a record without fault
 pub record Fine (s : List ℕ) (at : ℕ) (p : Platform) (fs : List Flow) (kind : Kind) : Type 0 where
   pub frame : Framed s at kind (length fs)
   pub fields : (found : Kind) × (fieldsAt s at kind p ≡ Passed found)
-  pub rest : restAt s at kind fs ≡ Passed kind
+  pub rest : restAt s at kind (idsOf fs) (prioritiesOf fs) ≡ Passed kind
 
 module _ (s : List ℕ) (at : ℕ) (p : Platform) (fs : List Flow) {kind : Kind} where
   fine-body : (c : Checked) → frameAt s at (length fs) ≡ c → bodyAt s at c p fs ≡ Passed kind → Fine s at p fs kind
@@ -102,7 +102,7 @@ module _ (s : List ℕ) (at : ℕ) (p : Platform) (fs : List Flow) {kind : Kind}
   fine-body (Fault number place) fe e = absurd (no-fault e)
   fine-body (Passed found) fe e =
       let t = then-passed _ _ e in
-      let k = rest-kind s at found fs (t .1) in
+      let k = rest-kind s at found _ _ (t .1) in
       rw k (record { frame = framed s at (length fs) fe; fields = t .0; rest = rw k at (t .1) })
 
   pub fine : recordAt s at p fs ≡ Passed kind → Fine s at p fs kind
@@ -120,7 +120,7 @@ module _ (s : List ℕ) (at : ℕ) (p : Platform) (fs : List Flow) where
     unfolding recordAt bodyAt _then_
     record-field e = rw (fe, e)
 
-    pub record-rest : {found : Kind} → fieldsAt s at kind p ≡ Passed found → recordAt s at p fs ≡ restAt s at kind fs
+    pub record-rest : {found : Kind} → fieldsAt s at kind p ≡ Passed found → recordAt s at p fs ≡ restAt s at kind (idsOf fs) (prioritiesOf fs)
     unfolding recordAt bodyAt _then_
     record-rest e = rw (fe, e)
 

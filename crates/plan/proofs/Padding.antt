@@ -47,12 +47,13 @@ pub accepted-is : (p : Platform) (flows : List Flow) (n : ℕ) → length flows 
 unfolding accepted
 accepted-is p flows n l h e = λ i. record { outcome = Accepted; plan = record { platform = p; flows = e i; count = sym (length-take-le n flows (omega arith)) i } }
 
-module _ (flows : List Flow) (count : ℕ) (f : Flow) (long : length flows ≡ 64) (room : count < 64) where
-  pub taken-more : take (count + 1) (set flows count f) ≡ take count flows ++ f ∷ []
-  taken-more = rw (add-one, take-suc-set flows count f (omega arith))
+-- one more flow, or one more of its values
+module _ {A : Type 0} (xs : List A) (count : ℕ) (x : A) (long : length xs ≡ 64) (room : count < 64) where
+  pub taken-more : take (count + 1) (set xs count x) ≡ take count xs ++ x ∷ []
+  taken-more = rw (add-one, take-suc-set xs count x (omega arith))
 
-  pub padded-more : flows ≡ padded blankFlow (take count flows) → set flows count f ≡ padded blankFlow (take (count + 1) (set flows count f))
-  padded-more blank =
-      ap (λ (a : List Flow). set a count f) blank
-      ∙ padded-set blankFlow (take count flows) f (sym (length-take-le count flows (omega arith))) room
-      ∙ ap (padded blankFlow) (sym taken-more)
+  pub padded-more : (blank : A) → xs ≡ padded blank (take count xs) → set xs count x ≡ padded blank (take (count + 1) (set xs count x))
+  padded-more blank e =
+      ap (λ (a : List A). set a count x) e
+      ∙ padded-set blank (take count xs) x (sym (length-take-le count xs (omega arith))) room
+      ∙ ap (padded blank) (sym taken-more)

@@ -10,16 +10,16 @@ use Rattle.plan.specs.declared.checks.Checked.the-variants.{Passed}
 use Rattle.plan.specs.declared.table.Kind.{Kind}
 use Rattle.plan.specs.declared.table.Kind.the-variants.{PlatformRecord, FlowRecord, EndRecord}
 
-module _ (s : List ℕ) (at : ℕ) (fs : List Flow) {kind : Kind} where
-  pub rest-platform : kind ≡ PlatformRecord → Passed kind ≡ restAt s at kind fs
+module _ (s : List ℕ) (at : ℕ) (ids priorities : List ℕ) {kind : Kind} where
+  pub rest-platform : kind ≡ PlatformRecord → Passed kind ≡ restAt s at kind ids priorities
   unfolding restAt
   rest-platform e = rw e
 
-  pub rest-flow : {f : Flow} {r : Checked} → kind ≡ FlowRecord → f ≡ flowAt s at → r ≡ clashAt at f fs → r ≡ restAt s at kind fs
+  pub rest-flow : {f : Flow} {r : Checked} → kind ≡ FlowRecord → f ≡ flowAt s at → r ≡ clashAt at f ids priorities → r ≡ restAt s at kind ids priorities
   unfolding restAt
   rest-flow e g p = rw (e, ← g) p
 
-  pub rest-end : {r : Checked} → kind ≡ EndRecord → r ≡ tailAt s at → r ≡ restAt s at kind fs
+  pub rest-end : {r : Checked} → kind ≡ EndRecord → r ≡ tailAt s at → r ≡ restAt s at kind ids priorities
   unfolding restAt
   rest-end e p = rw e p
 

@@ -35,27 +35,20 @@ counted PlatformRecord = refl
 counted FlowRecord = refl
 counted EndRecord = refl
 
--- what the loop's test on a count says
-pub field-left : {k n count : ℕ} → n ≡ count → k < n → k < count
-field-left e h = rw e at h
-
-pub field-none : {k n count : ℕ} → n ≡ count → n ≤ k → count ≤ k
-field-none e h = rw e at h
-
--- what the scan knows in front of field k, which stands at `offset`
-pub record Scanning (s : List ℕ) (at : ℕ) (kind : Kind) (p : Platform) (l : Limits) (k offset : ℕ) : Type 0 where
+-- what the scan knows in front of field k of `end`, which stands at `offset`
+pub record Scanning (s : List ℕ) (at : ℕ) (kind : Kind) (p : Platform) (l : Limits) (end k offset : ℕ) : Type 0 where
   pub whole : at + 3 + bodyLength kind ≤ length s
-  pub within : k ≤ fieldCount kind
+  pub fields : end ≡ fieldCount kind
   pub room : offset + sizeOf (drop k (fieldsOf kind)) ≡ 3 + bodyLength kind
   pub rest : fieldsAt s at kind p ≡ fieldsFrom s at kind l offset (drop k (fieldsOf kind))
 
-pub scanning-none : (s : List ℕ) (at : ℕ) (kind : Kind) (p : Platform) {l : Limits} → at + 3 + bodyLength kind ≤ length s → l ≡ limitsAt s at kind p → Scanning s at kind p l 0 3
-scanning-none s at kind p h e = record { whole = h; within = omega arith; room = ap (λ (n : ℕ). 3 + n) (filled kind); rest = rw e }
+pub scanning-none : (s : List ℕ) (at : ℕ) (kind : Kind) (p : Platform) {l : Limits} {end : ℕ} → at + 3 + bodyLength kind ≤ length s → l ≡ limitsAt s at kind p → end ≡ fieldCount kind → Scanning s at kind p l end 0 3
+scanning-none s at kind p h e n = record { whole = h; fields = n; room = ap (λ (n : ℕ). 3 + n) (filled kind); rest = rw e }
 
-module _ {s : List ℕ} {at : ℕ} {kind : Kind} {p : Platform} {l : Limits} {k offset : ℕ} (w : Scanning s at kind p l k offset) where
-  module _ {f : Field} (h : k < fieldCount kind) (e : f ≡ getD (fieldsOf kind) k noField) where
+module _ {s : List ℕ} {at : ℕ} {kind : Kind} {p : Platform} {l : Limits} {end k offset : ℕ} (w : Scanning s at kind p l end k offset) where
+  module _ {f : Field} (h : k < end) (e : f ≡ getD (fieldsOf kind) k noField) where
     next-field : drop k (fieldsOf kind) ≡ f ∷ drop (k + 1) (fieldsOf kind)
-    next-field = rw (drop-cons (fieldsOf kind) k noField (rw (counted kind) h), ← e, add-one k)
+    next-field = rw (drop-cons (fieldsOf kind) k noField (rw (counted kind, ← w .fields) h), ← e, add-one k)
 
     size-left : sizeOf (drop k (fieldsOf kind)) ≡ bytesOf (width f) + sizeOf (drop (k + 1) (fieldsOf kind))
     size-left = ap sizeOf next-field
@@ -68,18 +61,18 @@ module _ {s : List ℕ} {at : ℕ} {kind : Kind} {p : Platform} {l : Limits} {k 
     unfolding fieldsFrom _when_else_
     field-stops q t = w .rest ∙ rw (next-field, ← q, t)
 
-    pub scanning-more : {v : ℕ} → v ≡ numberAt s (width f) (at + offset) → outside l f v ≡ false → Scanning s at kind p l (k + 1) (offset + bytesOf (width f))
+    pub scanning-more : {v : ℕ} → v ≡ numberAt s (width f) (at + offset) → outside l f v ≡ false → Scanning s at kind p l end (k + 1) (offset + bytesOf (width f))
     unfolding fieldsFrom _when_else_
     scanning-more q t = record {
       whole = w .whole;
-      within = omega arith;
+      fields = w .fields;
       room = omega (arith, w .room, size-left);
       rest = w .rest ∙ rw (next-field, ← q, t);
     }
 
-  module _ (h : fieldCount kind ≤ k) where
+  module _ (h : end ≤ k) where
     none-left : drop k (fieldsOf kind) ≡ []
-    none-left = drop-of-length-le (fieldsOf kind) {i = k} (rw (counted kind) h)
+    none-left = drop-of-length-le (fieldsOf kind) {i = k} (rw (counted kind, ← w .fields) h)
 
     pub scanned : fieldsAt s at kind p ≡ Passed kind
     unfolding fieldsFrom

@@ -1,7 +1,7 @@
 -- The turns of the record loop: what has been read so far, and what each way out of a turn makes of it.
 use Prim.Native.Nat.{ℕ, suc, _+_, _-_, _≤_, _<_}
 use native.Mathlib.Omega.{arith}
-use mathlib.Core.Path.{_≡_, sym, ap, _∙_}
+use mathlib.Core.Path.{_≡_, sym, ap, ap₂, _∙_}
 use mathlib.Core.Bool.{Bool, true, false}
 use mathlib.Core.List.{List, [], _∷_, _++_}
 use lib.ListN.{length, getD, take, set, replicate, length-set}
@@ -23,21 +23,24 @@ use Rattle.plan.specs.declared.table.Kind.the-variants.{PlatformRecord, 
 use Rattle.plan.proofs.Order.{framed, flow-room, rest-kind, record-frame, record-field, record-rest, fault-ends, platform-leads, flow-leads, end-accepts}
 use Rattle.plan.proofs.Scan.{Scanning, scanning-none, field-stops, scanning-more, scanned, scanned-place}
 use Rattle.plan.proofs.Padding.{taken-more, padded-more}
+use Rattle.plan.proofs.Columns.{Column, column-none, column-more}
 
--- what has been read before the record at `at`: its platform, its first `count` flows, and that the rest decides
-pub record Sofar (s : List ℕ) (at : ℕ) (p : Platform) (flows : List Flow) (count : ℕ) : Type 0 where
+-- what has been read before the record at `at`: its platform, its first `count` flows with their ids and priorities, and that the rest decides
+pub record Sofar (s : List ℕ) (at : ℕ) (p : Platform) (flows : List Flow) (ids priorities : List ℕ) (count : ℕ) : Type 0 where
   pub left : ℕ
   pub enough : length s ≤ at + left
   pub few : count ≤ 64
   pub long : length flows ≡ 64
   pub blank : flows ≡ padded blankFlow (take count flows)
+  pub id-column : Column (λ f. f .id) ids flows count
+  pub priority-column : Column (λ f. f .priority) priorities flows count
   pub rest : readPlan s ≡ records (suc left) s at p (take count flows)
 
-pub sofar-none : (s : List ℕ) (p : Platform) (flows : List Flow) → p ≡ blankPlatform → flows ≡ replicate 64 blankFlow → Sofar s 0 p flows 0
+pub sofar-none : (s : List ℕ) (p : Platform) (flows : List Flow) → p ≡ blankPlatform → flows ≡ replicate 64 blankFlow → Sofar s 0 p flows (replicate 64 0) (replicate 64 0) 0
 unfolding readPlan
-sofar-none s p flows ep ef = record { left = length s; enough = omega arith; few = omega arith; long = rw ef; blank = rw ef; rest = rw ep }
+sofar-none s p flows ep ef = record { left = length s; enough = omega arith; few = omega arith; long = rw ef; blank = rw ef; id-column = column-none _ flows; priority-column = column-none _ flows; rest = rw ep }
 
-module _ {s : List ℕ} {at : ℕ} {p : Platform} {flows : List Flow} {count : ℕ} (w : Sofar s at p flows count) where
+module _ {s : List ℕ} {at : ℕ} {p : Platform} {flows : List Flow} {ids priorities : List ℕ} {count : ℕ} (w : Sofar s at p flows ids priorities count) where
   same-count : length (take count flows) ≡ count
   same-count = length-take-le count flows (omega (arith, w .few, w .long))
 
@@ -45,37 +48,40 @@ module _ {s : List ℕ} {at : ℕ} {p : Platform} {flows : List Flow} {count : �
   frame-refuses e = sym (w .rest ∙ fault-ends s at p _ _ (record-frame s at p _ (rw same-count e)))
 
 -- what is known inside a record whose frame is without fault, in front of its field k
-pub record Inside (s : List ℕ) (at : ℕ) (p : Platform) (flows : List Flow) (count : ℕ) (kind : Kind) (l : Limits) (k offset : ℕ) : Type 0 where
-  pub sofar : Sofar s at p flows count
+pub record Inside (s : List ℕ) (at : ℕ) (p : Platform) (flows : List Flow) (ids priorities : List ℕ) (count : ℕ) (kind : Kind) (l : Limits) (end k offset : ℕ) : Type 0 where
+  pub sofar : Sofar s at p flows ids priorities count
   pub frame : frameAt s at count ≡ Passed kind
-  pub scan : Scanning s at kind p l k offset
+  pub scan : Scanning s at kind p l end k offset
 
-pub inside-none : {s : List ℕ} {at : ℕ} {p : Platform} {flows : List Flow} {count : ℕ} {kind : Kind} {l : Limits} → Sofar s at p flows count → frameAt s at count ≡ Passed kind → l ≡ limitsAt s at kind p → Inside s at p flows count kind l 0 3
-inside-none {s} {at} {p} {flows} {count} {kind} w fe e = record { sofar = w; frame = fe; scan = scanning-none s at kind p (framed s at count fe .whole) e }
+pub inside-none : {s : List ℕ} {at : ℕ} {p : Platform} {flows : List Flow} {ids priorities : List ℕ} {count : ℕ} {kind : Kind} {l : Limits} {end : ℕ} → Sofar s at p flows ids priorities count → frameAt s at count ≡ Passed kind → l ≡ limitsAt s at kind p → end ≡ fieldCount kind → Inside s at p flows ids priorities count kind l end 0 3
+inside-none {s} {at} {p} {count} {kind} w fe e n = record { sofar = w; frame = fe; scan = scanning-none s at kind p (framed s at count fe .whole) e n }
 
-module _ {s : List ℕ} {at : ℕ} {p : Platform} {flows : List Flow} {count : ℕ} {kind : Kind} {l : Limits} {k offset : ℕ} (w : Inside s at p flows count kind l k offset) where
+module _ {s : List ℕ} {at : ℕ} {p : Platform} {flows : List Flow} {ids priorities : List ℕ} {count : ℕ} {kind : Kind} {l : Limits} {end k offset : ℕ} (w : Inside s at p flows ids priorities count kind l end k offset) where
   frame-fine : frameAt s at (length (take count flows)) ≡ Passed kind
   frame-fine = rw (same-count (w .sofar)) (w .frame)
 
   -- a field, its value and what the check of it said
-  module _ {f : Field} {v : ℕ} {b : Bool} (h : k < fieldCount kind) (e : f ≡ getD (fieldsOf kind) k noField) (q : v ≡ numberAt s (width f) (at + offset)) (o : b ≡ outside l f v) where
+  module _ {f : Field} {v : ℕ} {b : Bool} (h : k < end) (e : f ≡ getD (fieldsOf kind) k noField) (q : v ≡ numberAt s (width f) (at + offset)) (o : b ≡ outside l f v) where
     pub field-refuses : b ≡ true → refused (refusalOf f) (at + offset) ≡ readPlan s
     field-refuses t = sym (w .sofar .rest ∙ fault-ends s at p _ _ (record-field s at p _ frame-fine (field-stops (w .scan) h e q (sym o ∙ t))))
 
-    pub inside-more : {n : ℕ} → b ≡ false → n ≡ bytesOf (width f) → Inside s at p flows count kind l (k + 1) (offset + n)
+    pub inside-more : {n : ℕ} → b ≡ false → n ≡ bytesOf (width f) → Inside s at p flows ids priorities count kind l end (k + 1) (offset + n)
     inside-more t g = rw g (record { sofar = w .sofar; frame = w .frame; scan = scanning-more (w .scan) h e q (sym o ∙ t) })
 
   -- behind the last field, and what the checks there said
-  module _ {r : Checked} (h : fieldCount kind ≤ k) (re : r ≡ restAt s at kind (take count flows)) where
+  module _ {r : Checked} (h : end ≤ k) (re : r ≡ restAt s at kind (take count ids) (take count priorities)) where
     to-rest : recordAt s at p (take count flows) ≡ r
-    to-rest = record-rest s at p _ frame-fine (scanned (w .scan) h) ∙ sym re
+    to-rest =
+        record-rest s at p _ frame-fine (scanned (w .scan) h)
+        ∙ ap₂ (restAt s at kind) (sym (w .sofar .id-column .same)) (sym (w .sofar .priority-column .same))
+        ∙ sym re
 
     pub rest-refuses : {number place : ℕ} → r ≡ Fault number place → refused number place ≡ readPlan s
     rest-refuses e = sym (w .sofar .rest ∙ fault-ends s at p _ _ (to-rest ∙ e))
 
     module _ {found : Kind} (pe : r ≡ Passed found) where
       fine : {known : Kind} → kind ≡ known → recordAt s at p (take count flows) ≡ Passed known
-      fine e = to-rest ∙ pe ∙ ap Passed (rest-kind s at kind _ (sym re ∙ pe) ∙ e)
+      fine e = to-rest ∙ pe ∙ ap Passed (rest-kind s at kind _ _ (sym re ∙ pe) ∙ e)
 
       pub end-accepted : kind ≡ EndRecord → accepted p (take count flows) ≡ readPlan s
       end-accepted e = sym (w .sofar .rest ∙ end-accepts s at p _ _ (fine e))
@@ -87,7 +93,7 @@ module _ {s : List ℕ} {at : ℕ} {p : Platform} {flows : List Flow} {count : �
           let y = ap bodyLength e in
           (omega (arith, w .sofar .enough, w .scan .whole), omega (arith, w .sofar .enough, w .scan .whole), omega arith)
 
-      pub platform-taken : {q : Platform} → kind ≡ PlatformRecord → q ≡ platformAt s at → Sofar s (at + offset) q flows count
+      pub platform-taken : {q : Platform} → kind ≡ PlatformRecord → q ≡ platformAt s at → Sofar s (at + offset) q flows ids priorities count
       platform-taken {q} e g =
           let t = spent e in
           record {
@@ -96,10 +102,12 @@ module _ {s : List ℕ} {at : ℕ} {p : Platform} {flows : List Flow} {count : �
             few = w .sofar .few;
             long = w .sofar .long;
             blank = w .sofar .blank;
+            id-column = w .sofar .id-column;
+            priority-column = w .sofar .priority-column;
             rest = w .sofar .rest ∙ platform-leads s at p _ _ (fine e) ∙ λ i. records (t .0 i) s (sym (t .2) i) (sym g i) (take count flows);
           }
 
-      pub flow-taken : {f : Flow} → kind ≡ FlowRecord → f ≡ flowAt s at → Sofar s (at + offset) p (set flows count f) (count + 1)
+      pub flow-taken : {f : Flow} → kind ≡ FlowRecord → f ≡ flowAt s at → Sofar s (at + offset) p (set flows count f) (set ids count (f .id)) (set priorities count (f .priority)) (count + 1)
       flow-taken {f} e g =
           let t = spent e in
           let room = flow-room (framed s at count (w .frame)) e in
@@ -109,6 +117,8 @@ module _ {s : List ℕ} {at : ℕ} {p : Platform} {flows : List Flow} {count : �
             enough = t .1;
             few = omega arith;
             long = rw length-set (w .sofar .long);
-            blank = padded-more flows count f (w .sofar .long) room (w .sofar .blank);
+            blank = padded-more flows count f (w .sofar .long) room blankFlow (w .sofar .blank);
+            id-column = column-more (w .sofar .id-column) f (w .sofar .long) room;
+            priority-column = column-more (w .sofar .priority-column) f (w .sofar .long) room;
             rest = w .sofar .rest ∙ flow-leads s at p _ _ (fine e) ∙ λ i. records (t .0 i) s (sym (t .2) i) p (same i);
           }

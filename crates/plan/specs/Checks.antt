@@ -2,7 +2,7 @@
 -- `s` is the plan's bytes, `at` the place of the record's tag, `fs` the flows before it, `p` the platform.
 use Prim.Native.Nat.{ℕ, _+_}
 use mathlib.Core.Bool.{Bool, true, false, not, _&&_, _||_}
-use mathlib.Core.List.{List, [], _∷_}
+use mathlib.Core.List.{List, [], _∷_, map}
 use lib.ListN.{length}
 use lib.Dec.{leb, ltb, eqb}
 use Rattle.framing.specs.First.{_when_else_}
@@ -22,7 +22,6 @@ use Rattle.plan.specs.declared.table.Field.{Field}
 use Rattle.plan.specs.declared.values.Limits.{Limits}
 use Rattle.plan.specs.declared.checks.Checked.{Checked}
 use Rattle.plan.specs.declared.checks.Checked.the-variants.{Fault, Passed}
-use Rattle.plan.specs.declared.checks.Taken.{Taken}
 
 abbrev pub isPlatform : Kind → Bool
 isPlatform PlatformRecord = true
@@ -82,32 +81,36 @@ fieldsFrom s at kind l offset (f ∷ fs) =
 abbrev pub fieldsAt : List ℕ → ℕ → Kind → Platform → Checked
 fieldsAt s at kind p = fieldsFrom s at kind (limitsAt s at kind p) 3 (fieldsOf kind)
 
--- Whether one of the flows passes a test.
-abbrev pub some : (Flow → Bool) → List Flow → Bool
-some test [] = false
-some test (f ∷ fs) = test f || some test fs
+-- The ids and the priorities of flows.
+abbrev pub idsOf : List Flow → List ℕ
+idsOf fs = map (λ f. f .id) fs
 
--- 7, 8: "id equal to an earlier flow's", "priority equal to an earlier flow's"
-abbrev pub taken : List Flow → Flow → Taken
-taken fs f = record { id = some (λ g. eqb (g .id) (f .id)) fs; priority = some (λ g. eqb (g .priority) (f .priority)) fs }
+abbrev pub prioritiesOf : List Flow → List ℕ
+prioritiesOf fs = map (λ f. f .priority) fs
 
--- "9, 7, 8": "source equals destination" at the destination, then at the id, then at the priority
-unfoldable pub clashAt : ℕ → Flow → List Flow → Checked
-clashAt at f fs =
+-- Whether an earlier flow's id, or priority, is this one.
+abbrev pub taken : List ℕ → ℕ → Bool
+taken [] value = false
+taken (x ∷ earlier) value = eqb x value || taken earlier value
+
+-- "9, 7, 8": "source equals destination" at the destination, then "id equal to an earlier flow's" at the id, then
+-- "priority equal to an earlier flow's" at the priority
+unfoldable pub clashAt : ℕ → Flow → List ℕ → List ℕ → Checked
+clashAt at f ids priorities =
     Fault 9 (at + 8) when eqb (f .source) (f .destination) else
-    Fault 7 (at + 3) when taken fs f .id else
-    Fault 8 (at + 5) when taken fs f .priority else
+    Fault 7 (at + 3) when taken ids (f .id) else
+    Fault 8 (at + 5) when taken priorities (f .priority) else
     Passed FlowRecord
 
 -- 10: "a byte after the end record"
 unfoldable pub tailAt : List ℕ → ℕ → Checked
 tailAt s at = Fault 10 (at + 3) when ltb (at + 3) (length s) else Passed EndRecord
 
--- Behind the fields.
-unfoldable pub restAt : List ℕ → ℕ → Kind → List Flow → Checked
-restAt s at PlatformRecord fs = Passed PlatformRecord
-restAt s at FlowRecord fs = clashAt at (flowAt s at) fs
-restAt s at EndRecord fs = tailAt s at
+-- Behind the fields, with the ids and priorities of the flows before the record.
+unfoldable pub restAt : List ℕ → ℕ → Kind → List ℕ → List ℕ → Checked
+restAt s at PlatformRecord ids priorities = Passed PlatformRecord
+restAt s at FlowRecord ids priorities = clashAt at (flowAt s at) ids priorities
+restAt s at EndRecord ids priorities = tailAt s at
 
 infixr 20 _then_
 -- The first fault met decides.
@@ -117,7 +120,7 @@ unfoldable pub _then_ : Checked → Checked → Checked
 
 unfoldable pub bodyAt : List ℕ → ℕ → Checked → Platform → List Flow → Checked
 bodyAt s at (Fault number place) p fs = Fault number place
-bodyAt s at (Passed kind) p fs = fieldsAt s at kind p then restAt s at kind fs
+bodyAt s at (Passed kind) p fs = fieldsAt s at kind p then restAt s at kind (idsOf fs) (prioritiesOf fs)
 
 -- "Within a record the order is: header complete (1), 2, 4, 3, body complete (1), 6, then 5 field by field, 9, 7, 8", and for the end record 10.
 unfoldable pub recordAt : List ℕ → ℕ → Platform → List Flow → Checked

@@ -1,11 +1,10 @@
 // The checks of document 01, "What sends a plan back", in their order within a record.
 ghost use mathlib.Core.Path.{_≡_};
 ghost use Prim.Native.Nat.{_+_, _^_, _≤_, _<_};
-ghost use lib.ListN.{length, take};
+ghost use lib.ListN.{length};
 ghost use Rattle.plan.specs.Table.{bodyLength};
 ghost use Rattle.plan.specs.Checks.{isPlatform, misplaced, wrongLength, noRoom, headerAt, frameAt, above, outside, taken, clashAt, tailAt, restAt};
 use crate::Flow;
-use crate::Flows;
 use crate::table::Field;
 use crate::table::Kind;
 use crate::table::Limit;
@@ -23,12 +22,6 @@ use framing::header::tag_at;
 pub enum Checked {
     Fault(u8, usize),
     Passed(Kind),
-}
-
-// Which values of a flow an earlier flow has.
-pub struct Taken {
-    pub id: bool,
-    pub priority: bool,
 }
 
 fn is_platform(kind: Kind) -> bool
@@ -120,36 +113,31 @@ pub(crate) fn is_outside(limits: Limits, field: Field, value: u32) -> bool
     (value < lowest) | is_above(limits, limit, value)
 }
 
-// Whether an earlier flow has this flow's id, and whether one has its priority.
-fn taken_by(flows: Flows, count: usize, flow: Flow) -> Taken
-    requires { ⌜ count ≤ 64 ⌝ }
-    ensures { λ r. ⌜ r ≡ taken (take count flows) flow ⌝ }
+// Whether an earlier flow's id, or priority, is this one.
+fn is_taken(earlier: &[u16], value: u16) -> bool
+    ensures { λ r. ⌜ r ≡ taken (now (earlier .entry)) value ⌝ }
 {
-    let mut id = false;
-    let mut priority = false;
+    let mut found = false;
     let mut i: usize = 0;
-    while i < count {
-        let earlier = flows[i];
-        id = id | (earlier.id == flow.id);
-        priority = priority | (earlier.priority == flow.priority);
+    while i < earlier.len() {
+        found = found | (earlier[i] == value);
         i += 1;
     }
-    Taken { id, priority }
+    found
 }
 
-// 9, 7, 8 of the flow in the record at `at`.
-fn check_clash(at: usize, flow: Flow, flows: Flows, count: usize) -> Checked
-    requires { ⌜ (count ≤ 64) × (at + 23 < 2 ^ 64) ⌝ }
-    ensures { λ r. ⌜ r ≡ clashAt at flow (take count flows) ⌝ }
+// 9, 7, 8 of the flow in the record at `at`, behind flows of these ids and priorities.
+fn check_clash(at: usize, flow: Flow, ids: &[u16], priorities: &[u16]) -> Checked
+    requires { ⌜ at + 23 < 2 ^ 64 ⌝ }
+    ensures { λ r. ⌜ r ≡ clashAt at flow (now (ids .entry)) (now (priorities .entry)) ⌝ }
 {
     if flow.source == flow.destination {
         return Checked::Fault(9, at + 8);
     }
-    let taken = taken_by(flows, count, flow);
-    if taken.id {
+    if is_taken(ids, flow.id) {
         return Checked::Fault(7, at + 3);
     }
-    if taken.priority {
+    if is_taken(priorities, flow.priority) {
         return Checked::Fault(8, at + 5);
     }
     Checked::Passed(Kind::FlowRecord)
@@ -167,13 +155,19 @@ fn check_tail(bytes: &[u8], at: usize) -> Checked
 }
 
 // Behind the fields: 9, 7, 8 of a flow, 10 of the end.
-pub(crate) fn check_rest(bytes: &[u8], at: usize, kind: Kind, flows: Flows, count: usize) -> Checked
-    requires { ⌜ (at + 3 + bodyLength kind ≤ length (now bytes)) × (count ≤ 64) ⌝ }
-    ensures { λ r. ⌜ r ≡ restAt (now (bytes .entry)) at kind (take count flows) ⌝ }
+pub(crate) fn check_rest(
+    bytes: &[u8],
+    at: usize,
+    kind: Kind,
+    ids: &[u16],
+    priorities: &[u16],
+) -> Checked
+    requires { ⌜ at + 3 + bodyLength kind ≤ length (now bytes) ⌝ }
+    ensures { λ r. ⌜ r ≡ restAt (now (bytes .entry)) at kind (now (ids .entry)) (now (priorities .entry)) ⌝ }
 {
     match kind {
         Kind::PlatformRecord => Checked::Passed(kind),
-        Kind::FlowRecord => check_clash(at, flow_at(bytes, at), flows, count),
+        Kind::FlowRecord => check_clash(at, flow_at(bytes, at), ids, priorities),
         Kind::EndRecord => check_tail(bytes, at),
     }
 }

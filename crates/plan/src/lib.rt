@@ -95,23 +95,24 @@ fn refuse(number: u8, place: usize) -> Reading
 }
 
 // The plan that the bytes hold, or the first fault's number and place.
+// The ids and priorities so far stand beside the flows: they are lent to the checks, where flows would be copied.
 pub fn read(bytes: &[u8]) -> Reading
     ensures { λ r. ⌜ r ≡ readPlan (now (bytes .entry)) ⌝ }
 {
     let mut at: usize = 0;
     let mut platform = blank_platform();
     let mut flows = [blank_flow(); 64];
+    let mut ids: [u16; 64] = [0; 64];
+    let mut priorities: [u16; 64] = [0; 64];
     let mut count: usize = 0;
     'records: loop {
-        let framed = check_frame(bytes, at, count);
-        let kind = match framed {
+        let kind = match check_frame(bytes, at, count) {
             Checked::Fault(number, place) => break 'records refuse(number, place),
             Checked::Passed(kind) => kind,
         };
         let limits = limits_at(bytes, at, kind, platform);
-        let mut k: usize = 0;
         let mut offset: usize = 3;
-        while k < field_count(kind) {
+        for k in 0..field_count(kind) {
             let field = field_of(kind, k);
             let Field(width, _, _, refusal) = field;
             let value = number_at(bytes, width, at + offset);
@@ -119,16 +120,18 @@ pub fn read(bytes: &[u8]) -> Reading
                 break 'records refuse(refusal, at + offset);
             }
             offset += bytes_of(width);
-            k += 1;
         }
-        let rest = check_rest(bytes, at, kind, flows, count);
+        let rest = check_rest(bytes, at, kind, &ids[..count], &priorities[..count]);
         if let Checked::Fault(number, place) = rest {
             break 'records refuse(number, place);
         }
         match kind {
             Kind::PlatformRecord => platform = platform_at(bytes, at),
             Kind::FlowRecord => {
-                flows[count] = flow_at(bytes, at);
+                let flow = flow_at(bytes, at);
+                flows[count] = flow;
+                ids[count] = flow.id;
+                priorities[count] = flow.priority;
                 count += 1;
             }
             Kind::EndRecord => break 'records accept(platform, flows, count),
