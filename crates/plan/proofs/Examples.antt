@@ -81,7 +81,8 @@ fields :
 unfolding tagOf headerAt taggedAt frameAt fieldsFrom clashAt tailAt restAt _then_ bodyAt recordAt accepted refused after records readPlan _when_else_ outcomes bytes
 fields = refl
 
--- the last allowed value of each field whose first is not the last
+-- the last allowed value of each field whose first is not the last; among them a deadline of 1 and a jitter of 10^9:
+-- "A deadline below the unloaded latency is legal, and so is a jitter above the period."
 edges :
     outcomes
     (set P 3 8 ∷ set P 4 8 ∷ set P 5 16 ∷ set P 6 16 ∷ set P 7 1 ∷ set P 7 64 ∷ set P 8 0

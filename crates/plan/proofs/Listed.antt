@@ -1,4 +1,4 @@
--- Every fault that a record can have is one of document 01's, at a place of the input.
+-- Every fault that a record can have is one of document 01's, at a place of the input or at its end.
 use Prim.Native.Nat.{ℕ, _+_, _-_, _≤_}
 use native.Mathlib.Omega.{arith}
 use mathlib.Core.Path.{_≡_, refl}

@@ -73,9 +73,9 @@ outside l f v = ltb v (lowestOf f) || above l (highestOf f) v
 -- "then 5 field by field": the fields from the one at this offset of the record on.
 unfoldable pub fieldsFrom : List ℕ → ℕ → Kind → Limits → ℕ → List Field → Checked
 fieldsFrom s at kind l offset [] = Passed kind
-fieldsFrom s at kind l offset (f ∷ fs) =
+fieldsFrom s at kind l offset (f ∷ rest) =
     Fault (refusalOf f) (at + offset) when outside l f (numberAt s (width f) (at + offset)) else
-    fieldsFrom s at kind l (offset + bytesOf (width f)) fs
+    fieldsFrom s at kind l (offset + bytesOf (width f)) rest
 
 -- The first field stands behind the tag and the length.
 abbrev pub fieldsAt : List ℕ → ℕ → Kind → Platform → Checked

@@ -1,4 +1,4 @@
--- Document 01, "The plan's bytes" and "What sends a plan back", as definitions that compute.
+-- Document 01, "The plan's bytes" and "What sends a plan back", as definitions that compute; Legal and Layout say it without a reader.
 pub mod Table
 pub mod Values
 pub mod Checks

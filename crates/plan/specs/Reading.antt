@@ -20,7 +20,7 @@ planOf p fs = record { platform = p; flows = padded blankFlow fs; count = length
 unfoldable pub accepted : Platform → List Flow → Reading
 accepted p fs = record { outcome = Accepted; plan = planOf p fs }
 
--- A refused reading holds no plan: a blank one.
+-- A refused reading holds a blank plan.
 unfoldable pub refused : ℕ → ℕ → Reading
 refused number place = record { outcome = Refused number place; plan = planOf blankPlatform [] }
 
