@@ -44,40 +44,42 @@ use Rattle.engine.specs.Answers.{blankAnswer, answerArray}
 use Rattle.engine.specs.Working.{boundFor, hitsOn, Below, FirstsAre, FiguresAre, Known}
 use Rattle.engine.proofs.Scenes.{zeros, scene-long, scene-at, scene-read, scene-flow, scene-legal, own-length, row-read}
 use Rattle.engine.proofs.Placing.{set-cell}
-use Rattle.engine.proofs.Places.{listed-inside, listed-same, dealt-cell}
+use Rattle.engine.proofs.Places.{listed-inside, listed-long, listed-same, dealt-cell}
 use Rattle.engine.proofs.Turns.{Turned}
 
 abbrev AnswerIs : Platform → List Flow → ℕ → ℕ → Answer → Type 0
 AnswerIs p flows count k a = a ≡ answerTo p (take count flows) (flow flows k)
 
-pub record Answering (p : Platform) (flows : List Flow) (count : ℕ) (table : List (List Pair)) (priorities : List ℕ) (firsts hits figures : List (List ℕ)) (list : List Answer) (last : ℕ) : Type 0 where
+pub record Answering (p : Platform) (flows : List Flow) (count : ℕ) (table : List (List Pair)) (priorities : List ℕ) (lists firsts hits figures : List (List ℕ)) (list : List Answer) (last : ℕ) : Type 0 where
   pub scene : Scene p flows count
   pub has-table : table ≡ pairTable p (take count flows)
   pub has-priorities : Filled 0 (λ k. flow flows k .priority) priorities count
+  pub lists-room : length lists ≡ 64
   pub firsts-room : length firsts ≡ 64
   pub hits-room : length hits ≡ 64
   pub figures-room : length figures ≡ 64
   pub list-room : length list ≡ 64
   pub blank : (k : ℕ) → count ≤ k → k < 64 → getD list k blankAnswer ≡ blankAnswer
   pub answer : Below flows count (last + 1) (AnswerIs p flows count) blankAnswer list
-  pub known : Known p flows count (last + 1) firsts hits figures
+  pub known : Known p flows count (last + 1) lists firsts hits figures
 
 -- nothing has the priority 0
 nothing-below : {A : Type 0} {p : Platform} {flows : List Flow} {count : ℕ} → Scene p flows count → (P : ℕ → A → Type 0) (blank : A) (cells : List A) → Below flows count (0 + 1) P blank cells
 nothing-below s P blank cells = record { cell = λ k l g. absurd (omega (arith, scene-flow s k l .priority)) }
 
-pub answering-none : {p : Platform} {flows : List Flow} {count : ℕ} {table : List (List Pair)} {priorities : List ℕ} {firsts hits figures : List (List ℕ)} {list : List Answer} → Scene p flows count → table ≡ pairTable p (take count flows) → Filled 0 (λ k. flow flows k .priority) priorities count → length firsts ≡ 64 → length hits ≡ 64 → length figures ≡ 64 → list ≡ replicate 64 blankAnswer → Answering p flows count table priorities firsts hits figures list 0
-answering-none s t c fr hr gr e = record {
+pub answering-none : {p : Platform} {flows : List Flow} {count : ℕ} {table : List (List Pair)} {priorities : List ℕ} {lists firsts hits figures : List (List ℕ)} {list : List Answer} → Scene p flows count → table ≡ pairTable p (take count flows) → Filled 0 (λ k. flow flows k .priority) priorities count → length lists ≡ 64 → length firsts ≡ 64 → length hits ≡ 64 → length figures ≡ 64 → list ≡ replicate 64 blankAnswer → Answering p flows count table priorities lists firsts hits figures list 0
+answering-none s t c lr fr hr gr e = record {
   scene = s;
   has-table = t;
   has-priorities = c;
+  lists-room = lr;
   firsts-room = fr;
   hits-room = hr;
   figures-room = gr;
   list-room = rw e;
   blank = λ k l g. rw e (getD-replicate 64 k blankAnswer blankAnswer g);
   answer = nothing-below s _ _ _;
-  known = record { first = nothing-below s _ _ _; hit = nothing-below s _ _ _; figure = nothing-below s _ _ _ };
+  known = record { list = nothing-below s _ _ _; first = nothing-below s _ _ _; hit = nothing-below s _ _ _; figure = nothing-below s _ _ _ };
 }
 
 -- a verdict's bound is small
@@ -86,8 +88,8 @@ bound-said-small p fs answer f l (Bounded r k) s = let h : limit f ≤ f .period
 bound-said-small p fs answer f l (Late k) s = omega arith
 bound-said-small p fs answer f l (Waits id) s = omega arith
 
-module _ {p : Platform} {flows : List Flow} {count : ℕ} {table : List (List Pair)} {priorities : List ℕ} {firsts hits figures : List (List ℕ)} {list : List Answer} {last : ℕ}
-    (w : Answering p flows count table priorities firsts hits figures list last) where
+module _ {p : Platform} {flows : List Flow} {count : ℕ} {table : List (List Pair)} {priorities : List ℕ} {lists firsts hits figures : List (List ℕ)} {list : List Answer} {last : ℕ}
+    (w : Answering p flows count table priorities lists firsts hits figures list last) where
   module _ {i : ℕ} (next : (i ≤ 64) × Highest (λ k. ltb last (getD priorities k 0)) (λ k. getD priorities k 0) count i) where
     -- ---- a flow is left
     module _ (left : i ≡ 64 → ⊥) where
@@ -106,8 +108,7 @@ module _ {p : Platform} {flows : List Flow} {count : ℕ} {table : List (List Pa
       pub sooner : 65536 - getD flows i zeros .priority < 65536 - last
       sooner = rw (scene-read (w .scene) i inside) (omega (arith, later, scene-flow (w .scene) i inside .priority))
 
-      -- what `figures_of` is asked for
-      pub figures-asked : (0 < getD flows i zeros .period) × (getD flows i zeros .period ≤ 1_000_000_000) × (getD flows i zeros .jitter ≤ 1_000_000_000)
+      figures-asked : (0 < getD flows i zeros .period) × (getD flows i zeros .period ≤ 1_000_000_000) × (getD flows i zeros .jitter ≤ 1_000_000_000)
       figures-asked = let l = scene-legal (w .scene) i inside in (omega (arith, l .period), l .period .1, l .jitter .1)
 
       -- no flow stands between the last one and this one
@@ -148,9 +149,9 @@ module _ {p : Platform} {flows : List Flow} {count : ℕ} {table : List (List Pa
         o : HasRow p flows count (flow flows i) (getD table i d)
         o = row-read (w .scene) (w .has-table) i d inside
 
-        lists : Listed (λ k. directFor p (flow flows i) (flow flows k)) count (row .direct) (row .many)
+        lists-are : Listed (λ k. directFor p (flow flows i) (flow flows k)) count (row .direct) (row .many)
         unfolding directFor
-        lists = listed-same (λ k h. rw (ef, priority-at k h, o .cell k h)) (r .lists)
+        lists-are = listed-same (λ k h. rw (ef, priority-at k h, o .cell k h)) (r .lists)
 
         firsts-are : FirstsAre p flows count i (row .firsts)
         firsts-are = record { cell = λ k h. r .begins .cell k h ∙ ap (λ (x : Pair). x .first) (o .cell k h) }
@@ -162,18 +163,22 @@ module _ {p : Platform} {flows : List Flow} {count : ℕ} {table : List (List Pa
           r .shares .cell i inside ∙ ap (λ (x : Pair). x .count) (o .cell i inside) ∙ own-length (w .scene) i inside ∙ ap (λ (g : Flow). length (routeOf p g)) (sym ef),
         )
 
-        pub turned : Turned p flows count i priorities row firsts hits figures
+        pub turned : Turned p flows count i priorities row lists firsts hits figures
         turned = record {
           scene = w .scene;
           inside = inside;
           has-priorities = w .has-priorities;
           shares = record { cell = λ k h. r .shares .cell k h ∙ ap (λ (x : Pair). x .count) (o .cell k h) };
-          lists = lists;
-          known = record { first = below-same (w .known .first); hit = below-same (w .known .hit); figure = below-same (w .known .figure) };
+          names = lists-are;
+          known = record { list = below-same (w .known .list); first = below-same (w .known .first); hit = below-same (w .known .hit); figure = below-same (w .known .figure) };
         }
 
+        -- what `figures_of` is asked for
+        pub figures-fit : {n : ℕ} → n ≤ row .many → (0 < getD flows i zeros .period) × (getD flows i zeros .period ≤ 1_000_000_000) × (getD flows i zeros .jitter ≤ 1_000_000_000) × (n ≤ 64)
+        figures-fit few = let a = figures-asked in (a .0, a .1, a .2, omega (arith, lists-are .small, lists-are .few))
+
         pub direct-low : (row .many ≤ 64) × ((m : ℕ) → m < row .many → getD (row .direct) m 0 < 64)
-        direct-low = (omega (arith, lists .small, lists .few), λ m h. omega (arith, listed-inside lists m h, w .scene .few))
+        direct-low = (omega (arith, lists-are .small, lists-are .few), λ m h. omega (arith, listed-inside lists-are m h, w .scene .few))
 
         module _ {v : Verdict} (ev : v ≡ verdict p (take count flows) (flow flows i)) {R : ℕ} (er : R ≡ boundIn v) where
           bound-low : R ≤ 1_000_000_000
@@ -183,19 +188,19 @@ module _ {p : Platform} {flows : List Flow} {count : ℕ} {table : List (List Pa
           figures-at : (k : ℕ) → k < count → directFor p (flow flows i) (flow flows k) ≡ true → FiguresAre p flows count k (getD figures k [])
           figures-at k h d = w .known .figure .cell k h (before k h (direct-above p (flow flows i) (flow flows k) d))
 
-          pub hits-asked : (row .many ≤ 64) × ((m : ℕ) → m < row .many → (getD (row .direct) m 0 < 64) × (last-at figures (getD (row .direct) m 0) ≤ end-at figures (getD (row .direct) m 0)) × (R + end-at figures (getD (row .direct) m 0) < 4_294_967_295))
-          hits-asked = (direct-low .0, λ m h. one m h)
+          pub hits-asked : {n : ℕ} → n ≤ row .many → (n ≤ 64) × ((m : ℕ) → m < n → (getD (row .direct) m 0 < 64) × (last-at figures (getD (row .direct) m 0) ≤ end-at figures (getD (row .direct) m 0)) × (R + end-at figures (getD (row .direct) m 0) < 4_294_967_295))
+          hits-asked few = (omega (arith, direct-low .0), λ m h. one m (omega arith))
             where
               one : (m : ℕ) → m < row .many → (getD (row .direct) m 0 < 64) × (last-at figures (getD (row .direct) m 0) ≤ end-at figures (getD (row .direct) m 0)) × (R + end-at figures (getD (row .direct) m 0) < 4_294_967_295)
               one m h =
                   let k = getD (row .direct) m 0 in
-                  let l = listed-inside lists m h in
+                  let l = listed-inside lists-are m h in
                   let g = scene-flow (w .scene) k (l .0) in
                   let e = figures-at k (l .0) (l .1) in
                   (direct-low .1 m h, rw e (omega arith), rw e (omega (arith, bound-low, g .jitter, g .period)))
 
           hit-cell : {hit : List ℕ} → Dealt (λ k. up (R + (end-at figures k - last-at figures k)) (last-at figures k + 1)) (row .direct) (row .many) hit → (k : ℕ) → k < count → getD hit k 0 ≡ hitsOn p flows count (flow flows i) k
-          hit-cell d k h = dealt-cell lists d k h ∙ go (directFor p (flow flows i) (flow flows k)) refl
+          hit-cell d k h = dealt-cell lists-are d k h ∙ go (directFor p (flow flows i) (flow flows k)) refl
             where
               go : (b : Bool) → directFor p (flow flows i) (flow flows k) ≡ b → cond b (up (R + (end-at figures k - last-at figures k)) (last-at figures k + 1)) 0 ≡ cond b (hits-of (boundFor p flows count (flow flows i)) (flow flows k)) 0
               go true t =
@@ -210,14 +215,15 @@ module _ {p : Platform} {flows : List Flow} {count : ℕ} {table : List (List Pa
           hits-are XLWX d = record { cell = hit-cell d }
           hits-are IBN d = record { cell = hit-cell d }
 
-          pub answering-more : {cost : ℕ} {hit new : List ℕ} {way : Way} → way ≡ wayOf p count → cost ≡ latency p (getD flows i zeros)
-              → Dealt (λ k. up (R + (end-at figures k - last-at figures k)) (last-at figures k + 1)) (row .direct) (lookedAt (way .method) (row .many)) hit
-              → new ≡ figuresOf cost R (getD flows i zeros)
-              → Answering p flows count table priorities (set firsts i (row .firsts)) (set hits i hit) (set figures i new) (set list i (record { id = getD flows i zeros .id; verdict = v })) (getD flows i zeros .priority)
-          answering-more {cost} {hit} {new} {way} ew ec d en = rw ef (record {
+          pub answering-more : {cost seen : ℕ} {hit new : List ℕ} {way : Way} → way ≡ wayOf p → seen ≡ lookedAt (way .method) (row .many) → cost ≡ latency p (getD flows i zeros)
+              → Dealt (λ k. up (R + (end-at figures k - last-at figures k)) (last-at figures k + 1)) (row .direct) seen hit
+              → new ≡ figuresOf cost R seen (getD flows i zeros)
+              → Answering p flows count table priorities (set lists i (row .direct)) (set firsts i (row .firsts)) (set hits i hit) (set figures i new) (set list i (record { id = getD flows i zeros .id; verdict = v })) (getD flows i zeros .priority)
+          answering-more {cost} {seen} {hit} {new} {way} ew es ec d en = rw ef (record {
             scene = w .scene;
             has-table = w .has-table;
             has-priorities = w .has-priorities;
+            lists-room = rw length-set (w .lists-room);
             firsts-room = rw length-set (w .firsts-room);
             hits-room = rw length-set (w .hits-room);
             figures-room = rw length-set (w .figures-room);
@@ -225,9 +231,10 @@ module _ {p : Platform} {flows : List Flow} {count : ℕ} {table : List (List Pa
             blank = λ k l g. set-cell blankAnswer list i _ k (omega (arith, w .list-room)) (λ e. absurd (omega (arith, inside))) (λ n. w .blank k l g);
             answer = below-more (w .list-room) (w .answer) _ (λ t. record { id = flow flows i .id; verdict = ev t });
             known = record {
+              list = below-more (w .lists-room) (w .known .list) (row .direct) (rw (listed-long lists-are) lists-are);
               first = below-more (w .firsts-room) (w .known .first) (row .firsts) firsts-are;
-              hit = below-more (w .hits-room) (w .known .hit) hit (hits-are (methodUsed p) (rw ew at d));
-              figure = below-more (w .figures-room) (w .known .figure) new (en ∙ rw (ec, ef, er, ev));
+              hit = below-more (w .hits-room) (w .known .hit) hit (hits-are (methodUsed p) (rw (es, ew) at d));
+              figure = below-more (w .figures-room) (w .known .figure) new (en ∙ rw (es, ew, ec, ef, er, ev, listed-long lists-are));
             };
           })
 

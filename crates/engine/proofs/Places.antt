@@ -12,7 +12,10 @@ use borrow.Author.Count.{below-more}
 use Rattle.plan.specs.declared.Flow.{Flow}
 use Rattle.plan.specs.Values.{blankFlow}
 use Rattle.plan.specs.Legal.{flow}
+use Rattle.recurrence.specs.Sums.{sumOver}
+use Rattle.recurrence.proofs.Sums.{sum-last}
 use Rattle.model.specs.Interference.{keep, those}
+use Rattle.engine.specs.Loads.{sumTo}
 use Rattle.engine.specs.Places.{places, Listed, Dealt}
 use Rattle.engine.proofs.Placing.{set-cell}
 
@@ -105,7 +108,7 @@ places-where test (suc c) k h t = go (ℕ-discrete k c) (λ l. places-where test
         record { place = a .place; low = omega (arith, a .low, length-append xs ys); is = List·getD-append xs ys 0 (a .place) (a .low) ∙ a .is }
 
 module _ {test : ℕ → Bool} {count : ℕ} {cells : List ℕ} {n : ℕ} (w : Listed test count cells n) where
-  listed-long : length (places test count) ≡ n
+  pub listed-long : length (places test count) ≡ n
   listed-long = ap length (sym (w .listed)) ∙ length-take-le n cells (omega (arith, w .small, w .few, w .room))
 
   listed-cell : (m : ℕ) → m < n → getD (places test count) m 0 ≡ getD cells m 0
@@ -209,3 +212,24 @@ places-same (suc c) same = ap₂ (λ (l : List ℕ) (b : Bool). l ++ cond b (c �
 -- a list of the places that pass is one of those that pass another test that agrees
 pub listed-same : {test other : ℕ → Bool} {count : ℕ} {cells : List ℕ} {n : ℕ} → ((k : ℕ) → k < count → test k ≡ other k) → Listed test count cells n → Listed other count cells n
 listed-same {count = count} same w = record { small = w .small; few = w .few; room = w .room; listed = w .listed ∙ places-same count same }
+
+-- a sum along the list is one over all places, where the figure is 0 at those that do not pass
+sum-places : (test : ℕ → Bool) (f : ℕ → ℕ) (c : ℕ) → ((k : ℕ) → k < c → test k ≡ false → f k ≡ 0) → sumOver (places test c) f ≡ sumTo c f
+unfolding places sumOver sumTo
+sum-places test f zero none = refl
+sum-places test f (suc c) none = go (test c) refl (sum-places test f c (λ k h. none k (omega arith)))
+  where
+    go : (b : Bool) → test c ≡ b → sumOver (places test c) f ≡ sumTo c f → sumOver (places test c ++ cond b (c ∷ []) []) f ≡ sumTo c f + f c
+    go true t before = sum-last f (places test c) c ∙ ap (λ (s : ℕ). s + f c) before
+    go false t before = ap (λ (l : List ℕ). sumOver l f) (append-nil (places test c)) ∙ omega (arith, before, none c (omega arith) t)
+
+sum-along : (f : ℕ → ℕ) (cells : List ℕ) (n : ℕ) → n ≤ length cells → sumTo n (λ m. f (getD cells m 0)) ≡ sumOver (take n cells) f
+unfolding sumTo sumOver
+sum-along f cells zero h = refl
+sum-along f cells (suc n) h = ap (λ (s : ℕ). s + f (getD cells n 0)) (sum-along f cells n (omega arith)) ∙ sym (sum-last f (take n cells) (getD cells n 0)) ∙ ap (λ (l : List ℕ). sumOver l f) (sym (take-suc cells n 0 (omega arith)))
+
+pub sum-listed : {test : ℕ → Bool} {count : ℕ} {cells : List ℕ} {n : ℕ} → Listed test count cells n → (f : ℕ → ℕ) → ((k : ℕ) → k < count → test k ≡ false → f k ≡ 0) → sumTo n (λ m. f (getD cells m 0)) ≡ sumTo count f
+sum-listed {test} {count} {cells} {n} w f none =
+    sum-along f cells n (omega (arith, w .small, w .few, w .room))
+    ∙ ap (λ (l : List ℕ). sumOver l f) (w .listed)
+    ∙ sum-places test f count none

@@ -13,6 +13,8 @@ use Rattle.plan.specs.Legal.{flow}
 use Rattle.recurrence.specs.declared.Settled.{Settled}
 use Rattle.recurrence.specs.Recurrence.{Term, rightSide}
 use Rattle.recurrence.specs.Verdicts.{Bound, Allowed}
+use Rattle.model.specs.declared.Method.{Method}
+use Rattle.model.specs.declared.Method.the-variants.{SB, XLWX, IBN}
 use Rattle.model.specs.declared.Verdict.{Verdict}
 use Rattle.model.specs.declared.Verdict.the-variants.{Bounded, Late, Waits}
 use Rattle.model.specs.Links.{pairOf}
@@ -28,24 +30,37 @@ use Rattle.pairs.specs.Scene.{Scene}
 use Rattle.engine.specs.declared.rows.Row.{Row}
 use Rattle.engine.specs.declared.terms.Way.{Way}
 use Rattle.engine.specs.Filled.{Filled}
-use Rattle.engine.specs.Figures.{bound-at}
-use Rattle.engine.specs.Loads.{wayOf, capBy}
+use Rattle.engine.specs.Figures.{cost-at, bound-at}
+use Rattle.engine.specs.Loads.{sumTo, upLoad, downLoad, wayOf, capBy, lookedAt}
 use Rattle.engine.specs.Places.{Listed}
 use Rattle.engine.specs.Search.{Highest}
 use Rattle.engine.specs.Solving.{termAt, Lawful, Solvable}
-use Rattle.engine.specs.Working.{boundFor, FiguresAre, Known}
+use Rattle.engine.specs.Working.{boundFor, manyFor, ListsAre, FiguresAre, Known}
 use Rattle.engine.proofs.Scenes.{zeros, scene-long, scene-at, scene-read, scene-flow}
 use Rattle.engine.proofs.Costs.{latency-some}
-use Rattle.engine.proofs.Places.{At, listed-inside, listed-where, listed-flows, map-along}
+use Rattle.engine.proofs.Places.{At, listed-inside, listed-where, listed-flows, map-along, sum-listed}
+use Rattle.engine.proofs.Thirds.{third-idle}
 use Rattle.engine.proofs.Pairings.{Paired, loads-small, term-is}
 
-pub record Turned (p : Platform) (flows : List Flow) (count i : ℕ) (priorities : List ℕ) (row : Row) (firsts hits figures : List (List ℕ)) : Type 0 where
+pub record Turned (p : Platform) (flows : List Flow) (count i : ℕ) (priorities : List ℕ) (row : Row) (lists firsts hits figures : List (List ℕ)) : Type 0 where
   pub scene : Scene p flows count
   pub inside : i < count
   pub has-priorities : Filled 0 (λ k. flow flows k .priority) priorities count
   pub shares : Filled 0 (λ k. pairOf p (flow flows i) (flow flows k) .count) (row .shared) count
-  pub lists : Listed (λ k. directFor p (flow flows i) (flow flows k)) count (row .direct) (row .many)
-  pub known : Known p flows count (flow flows i .priority) firsts hits figures
+  pub names : Listed (λ k. directFor p (flow flows i) (flow flows k)) count (row .direct) (row .many)
+  pub known : Known p flows count (flow flows i .priority) lists firsts hits figures
+
+-- a sum along a list, as the method looks at it
+sum-looked : (m : Method) {test : ℕ → Bool} {count : ℕ} {cells : List ℕ} {n : ℕ} → Listed test count cells n → (f : ℕ → ℕ) → ((k : ℕ) → k < lookedAt m count → test k ≡ false → f k ≡ 0) → sumTo (lookedAt m n) (λ q. f (getD cells q 0)) ≡ sumTo (lookedAt m count) f
+unfolding sumTo
+sum-looked SB w f none = refl
+sum-looked XLWX w f none = sum-listed w f none
+sum-looked IBN w f none = sum-listed w f none
+
+looked-few : (m : Method) (n : ℕ) → lookedAt m n ≤ n
+looked-few SB n = omega arith
+looked-few XLWX n = omega arith
+looked-few IBN n = omega arith
 
 -- a flow has a bound exactly where its bound is not 0
 bound-none : (v : Verdict) → isBounded v ≡ false → boundIn v ≡ 0
@@ -66,14 +81,14 @@ module _ {p : Platform} {flows : List Flow} {count : ℕ} (s : Scene p flows cou
           absurd (omega (arith, e, latency-some (s .legal .platform) (scene-flow s k h)))
       go false t = refl
 
-module _ {p : Platform} {flows : List Flow} {count i : ℕ} {priorities : List ℕ} {row : Row} {firsts hits figures : List (List ℕ)}
-    (w : Turned p flows count i priorities row firsts hits figures) where
+module _ {p : Platform} {flows : List Flow} {count i : ℕ} {priorities : List ℕ} {row : Row} {lists firsts hits figures : List (List ℕ)}
+    (w : Turned p flows count i priorities row lists firsts hits figures) where
   module _ (m : ℕ) (h : m < row .many) where
     pub here : getD (row .direct) m 0 < count
-    here = listed-inside (w .lists) m h .0
+    here = listed-inside (w .names) m h .0
 
     direct-here : directFor p (flow flows i) (flow flows (getD (row .direct) m 0)) ≡ true
-    direct-here = listed-inside (w .lists) m h .1
+    direct-here = listed-inside (w .names) m h .1
 
     above : flow flows (getD (row .direct) m 0) .priority < flow flows i .priority
     above = direct-above p (flow flows i) (flow flows (getD (row .direct) m 0)) direct-here
@@ -107,7 +122,7 @@ module _ {p : Platform} {flows : List Flow} {count i : ℕ} {priorities : List �
       let h : k < count = omega (arith, scene-long (w .scene), u .inside) in
       let d = rw (scene-at (w .scene) k h) at (u .direct) in
       let b = rw (scene-at (w .scene) k h) at (u .unbounded) in
-      let a = listed-where (w .lists) k h d in
+      let a = listed-where (w .names) k h d in
       let z : bound-at figures (getD (row .direct) (a .place) 0) ≡ 0 = rw (a .is) (ap (λ (g : List ℕ). getD g 1 0) (w .known .figure .cell k h (direct-above p (flow flows i) (flow flows k) d)) ∙ bound-none (verdict p (take count flows) (flow flows k)) b) in
       record { at = a; passes-there = eq-eqb (bound-at figures (getD (row .direct) (a .place) 0)) 0 z; low = h }
 
@@ -160,7 +175,20 @@ module _ {p : Platform} {flows : List Flow} {count i : ℕ} {priorities : List �
         has-costs = λ k l d. ap (λ (g : List ℕ). getD g 0 0) (w .known .figure .cell k l (omega (arith, above m h, direct-above p (flow flows j) (flow flows k) d)));
       }
 
-    module _ {way : Way} {cost most : ℕ} (ew : (way ≡ wayOf p count) × (way .seen ≤ count)) (ec : cost ≡ latency p (getD flows i zeros)) (el : most ≡ limit (getD flows i zeros)) where
+      list-here : ListsAre p flows count j (getD lists j [])
+      list-here = w .known .list .cell j (here m h) (above m h)
+
+      -- what a flow that is not direct for j brings
+      idle : (k : ℕ) → k < lookedAt (methodUsed p) count → directFor p (flow flows j) (flow flows k) ≡ false → getD (getD hits j []) k 0 ≡ 0
+      idle k l e = w .known .hit .cell j (here m h) (above m h) .cell k l ∙ rw e
+
+      ups-are : (first : ℕ) → sumTo (lookedAt (methodUsed p) (manyFor p flows count (flow flows j))) (λ q. upLoad (row .shared) (getD firsts j []) (getD hits j []) figures first (getD (getD lists j []) q 0)) ≡ sumTo (lookedAt (methodUsed p) count) (upLoad (row .shared) (getD firsts j []) (getD hits j []) figures first)
+      ups-are first = sum-looked (methodUsed p) list-here (upLoad (row .shared) (getD firsts j []) (getD hits j []) figures first) (λ k l e. third-idle (getD (row .shared) k 0) (getD (getD firsts j []) k 0) first 0 (getD (getD hits j []) k 0) (cost-at figures k) (idle k l e) .0)
+
+      downs-are : (first cap : ℕ) → sumTo (lookedAt (methodUsed p) (manyFor p flows count (flow flows j))) (λ q. downLoad (row .shared) (getD firsts j []) (getD hits j []) figures first cap (getD (getD lists j []) q 0)) ≡ sumTo (lookedAt (methodUsed p) count) (downLoad (row .shared) (getD firsts j []) (getD hits j []) figures first cap)
+      downs-are first cap = sum-looked (methodUsed p) list-here (downLoad (row .shared) (getD firsts j []) (getD hits j []) figures first cap) (λ k l e. third-idle (getD (row .shared) k 0) (getD (getD firsts j []) k 0) first cap (getD (getD hits j []) k 0) (cost-at figures k) (idle k l e) .1)
+
+    module _ {way : Way} {cost most : ℕ} (ew : way ≡ wayOf p) (ec : cost ≡ latency p (getD flows i zeros)) (el : most ≡ limit (getD flows i zeros)) where
       here-is : getD flows i zeros ≡ flow flows i
       here-is = scene-read (w .scene) i (w .inside)
 
@@ -170,42 +198,46 @@ module _ {p : Platform} {flows : List Flow} {count i : ℕ} {priorities : List �
       limit-is : most ≡ limit (flow flows i)
       limit-is = el ∙ ap limit here-is
 
-      term-here : (m : ℕ) → m < row .many → termAt way i (row .shared) firsts hits figures (getD (row .direct) m 0) ≡ term (methodUsed p) p (take count flows) (boundFor p flows count (flow flows (getD (row .direct) m 0))) (flow flows i) (flow flows (getD (row .direct) m 0))
+      term-here : (m : ℕ) → m < row .many → termAt way i (row .shared) lists firsts hits figures (getD (row .direct) m 0) ≡ term (methodUsed p) p (take count flows) (boundFor p flows count (flow flows (getD (row .direct) m 0))) (flow flows i) (flow flows (getD (row .direct) m 0))
       term-here m h =
           let k = getD (row .direct) m 0 in
-          rw (ew .0, figures-here m h, first-here m h, w .shares .cell k (here m h))
+          rw (ew, figures-here m h, first-here m h, ups-are m h (pairOf p (flow flows k) (flow flows i) .first), downs-are m h (pairOf p (flow flows k) (flow flows i) .first) (capBy (methodUsed p) p (getD (row .shared) k 0)), w .shares .cell k (here m h))
           (term-is p flows count (methodUsed p) (flow flows i) (flow flows k) (boundFor p flows count (flow flows k)) (row .shared) (getD firsts k []) (getD hits k []) figures (paired m h) (scene-flow (w .scene) k (here m h) .period .0))
 
-      lawful : (m : ℕ) → m < row .many → Lawful way i (row .shared) firsts hits figures (getD (row .direct) m 0)
+      lawful : (m : ℕ) → m < row .many → Lawful way i (row .shared) lists firsts hits figures (getD (row .direct) m 0)
       lawful m h =
           let k = getD (row .direct) m 0 in
           let f = scene-flow (w .scene) k (here m h) in
           let s = loads-small p flows count (methodUsed p) (flow flows i) (flow flows k) (boundFor p flows count (flow flows k)) (row .shared) (getD firsts k []) (getD hits k []) figures (paired m h) (λ g. boundIn (verdict p (take count flows) g)) (methodUsed p) (bound-is m h .solves) (capBy (methodUsed p) p (getD (row .shared) k 0)) in
           record {
             inside = omega (arith, here m h, w .scene .few);
+            seen = rw (figures-here m h) (omega (arith, looked-few (methodUsed p) (manyFor p flows count (flow flows k)), list-here m h .few, list-here m h .small));
+            thirds = λ q l. omega (arith, listed-inside (list-here m h) q (fewer q (rw (figures-here m h) at l)), w .scene .few);
             ordered = rw (figures-here m h) (omega arith);
             end = rw (figures-here m h) (omega (arith, f .jitter, f .period));
             bound = rw (figures-here m h) (bound-small m h);
-            up = rw (ew .0, bound-here m h, first-here m h) (s .0);
-            down = rw (ew .0, figures-here m h, first-here m h) (s .1);
+            up = rw (figures-here m h, first-here m h, ups-are m h (pairOf p (flow flows k) (flow flows i) .first)) (s .0);
+            down = rw (ew, figures-here m h, first-here m h, downs-are m h (pairOf p (flow flows k) (flow flows i) .first) (capBy (methodUsed p) p (getD (row .shared) k 0))) (s .1);
           }
+        where
+          fewer : (q : ℕ) → q < lookedAt (methodUsed p) (manyFor p flows count (flow flows (getD (row .direct) m 0))) → q < manyFor p flows count (flow flows (getD (row .direct) m 0))
+          fewer q l = omega (arith, looked-few (methodUsed p) (manyFor p flows count (flow flows (getD (row .direct) m 0))))
 
-      terms-are : map (termAt way i (row .shared) firsts hits figures) (take (row .many) (row .direct)) ≡ termsOf p (take count flows) (verdict p (take count flows)) (flow flows i)
+      terms-are : map (termAt way i (row .shared) lists firsts hits figures) (take (row .many) (row .direct)) ≡ termsOf p (take count flows) (verdict p (take count flows)) (flow flows i)
       unfolding terms
       terms-are =
           let wanted : Flow → Term = λ g. term (methodUsed p) p (take count flows) (boundFor p flows count g) (flow flows i) g in
-          map-along (termAt way i (row .shared) firsts hits figures) (λ k. wanted (flow flows k)) (row .direct) (row .many) (omega (arith, w .lists .small, w .lists .few, w .lists .room)) term-here
+          map-along (termAt way i (row .shared) lists firsts hits figures) (λ k. wanted (flow flows k)) (row .direct) (row .many) (omega (arith, w .names .small, w .names .few, w .names .room)) term-here
           ∙ sym (map-map wanted (flow flows) (take (row .many) (row .direct)))
-          ∙ ap (map wanted) (listed-flows flows (directFor p (flow flows i)) (omega (arith, w .scene .few, w .scene .room)) (w .lists))
+          ∙ ap (map wanted) (listed-flows flows (directFor p (flow flows i)) (omega (arith, w .scene .few, w .scene .room)) (w .names))
 
-      pub solvable : Solvable way i cost most row firsts hits figures
+      pub solvable : Solvable way i cost most row lists firsts hits figures
       solvable =
           let f = scene-flow (w .scene) i (w .inside) in
           let b : limit (flow flows i) ≤ flow flows i .period = limit-period f in
           record {
-            few = omega (arith, w .lists .small, w .lists .few);
-            long = w .lists .room;
-            seen = omega (arith, ew .1, w .scene .few);
+            few = omega (arith, w .names .small, w .names .few);
+            long = w .names .room;
             inside = omega (arith, w .inside, w .scene .few);
             latency = omega (arith, cost-is, latency-small (w .scene .legal .platform) f);
             window = omega (arith, limit-is, f .period);
@@ -213,7 +245,7 @@ module _ {p : Platform} {flows : List Flow} {count i : ℕ} {priorities : List �
             fair = rw terms-are (terms-fair p (take count flows) (w .scene .legal) (verdict p (take count flows)) (flow flows i) (λ k l d. verdict-says p (take count flows) (flow (take count flows) k)) all);
           }
 
-      pub solved : {o : Settled} {v : Verdict} → Allowed (rightSide cost (map (termAt way i (row .shared) firsts hits figures) (take (row .many) (row .direct)))) cost most o → v ≡ settledVerdict o → v ≡ verdict p (take count flows) (flow flows i)
+      pub solved : {o : Settled} {v : Verdict} → Allowed (rightSide cost (map (termAt way i (row .shared) lists firsts hits figures) (take (row .many) (row .direct)))) cost most o → v ≡ settledVerdict o → v ≡ verdict p (take count flows) (flow flows i)
       solved {o} a ev =
           ev ∙ says-once p (take count flows) (verdict p (take count flows)) (flow flows i) (w .scene .legal) _ _
           (says-settled p (take count flows) (verdict p (take count flows)) (flow flows i) all o (rw (cost-is, limit-is, terms-are) at a))

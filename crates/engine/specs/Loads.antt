@@ -46,8 +46,8 @@ lookedAt SB count = 0
 lookedAt XLWX count = count
 lookedAt IBN count = count
 
-abbrev pub wayOf : Platform → ℕ → Way
-wayOf p count = record { method = methodUsed p; platform = p; seen = lookedAt (methodUsed p) count }
+abbrev pub wayOf : Platform → Way
+wayOf p = record { method = methodUsed p; platform = p }
 
 -- "delay allowance A", from the bound and the latency, or from the upstream flows.
 abbrev pub allowanceBy : Method → ℕ → ℕ → ℕ → ℕ

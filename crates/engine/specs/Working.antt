@@ -3,7 +3,7 @@ use Prim.Native.Nat.{ℕ, _<_}
 use mathlib.Core.Path.{_≡_}
 use mathlib.Core.Bool.{cond}
 use mathlib.Core.List.{List, []}
-use lib.ListN.{take, getD}
+use lib.ListN.{length, take, getD}
 use Rattle.plan.specs.declared.Platform.{Platform}
 use Rattle.plan.specs.declared.Flow.{Flow}
 use Rattle.plan.specs.Legal.{flow}
@@ -15,6 +15,7 @@ use Rattle.model.specs.Verdicts.{boundIn, verdict}
 use Rattle.engine.specs.Filled.{Filled}
 use Rattle.engine.specs.Figures.{figuresOf}
 use Rattle.engine.specs.Loads.{lookedAt}
+use Rattle.engine.specs.Places.{places, Listed}
 
 -- The bound of a flow, 0 where it has none.
 abbrev pub boundFor : Platform → List Flow → ℕ → Flow → ℕ
@@ -28,7 +29,14 @@ hitsOn p flows count j k = cond (directFor p j (flow flows k)) (hits (boundFor p
 pub record Below {A : Type 0} (flows : List Flow) (count n : ℕ) (P : ℕ → A → Type 0) (blank : A) (cells : List A) : Type 0 where
   pub cell : (k : ℕ) → k < count → flow flows k .priority < n → P k (getD cells k blank)
 
+-- How many direct flows a flow has.
+abbrev pub manyFor : Platform → List Flow → ℕ → Flow → ℕ
+manyFor p flows count f = length (places (λ k. directFor p f (flow flows k)) count)
+
 module _ (p : Platform) (flows : List Flow) (count : ℕ) where
+  abbrev pub ListsAre : ℕ → List ℕ → Type 0
+  ListsAre k row = Listed (λ m. directFor p (flow flows k) (flow flows m)) count row (manyFor p flows count (flow flows k))
+
   abbrev pub FirstsAre : ℕ → List ℕ → Type 0
   FirstsAre k row = Filled 0 (λ m. pairOf p (flow flows k) (flow flows m) .first) row count
 
@@ -36,9 +44,10 @@ module _ (p : Platform) (flows : List Flow) (count : ℕ) where
   HitsAre k row = Filled 0 (hitsOn p flows count (flow flows k)) row (lookedAt (methodUsed p) count)
 
   abbrev pub FiguresAre : ℕ → List ℕ → Type 0
-  FiguresAre k row = row ≡ figuresOf (latency p (flow flows k)) (boundFor p flows count (flow flows k)) (flow flows k)
+  FiguresAre k row = row ≡ figuresOf (latency p (flow flows k)) (boundFor p flows count (flow flows k)) (lookedAt (methodUsed p) (manyFor p flows count (flow flows k))) (flow flows k)
 
-  pub record Known (n : ℕ) (firsts hits figures : List (List ℕ)) : Type 0 where
+  pub record Known (n : ℕ) (lists firsts hits figures : List (List ℕ)) : Type 0 where
+    pub list : Below flows count n ListsAre [] lists
     pub first : Below flows count n FirstsAre [] firsts
     pub hit : Below flows count n HitsAre [] hits
     pub figure : Below flows count n FiguresAre [] figures

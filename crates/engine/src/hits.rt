@@ -3,7 +3,6 @@ ghost use Prim.Native.Nat.{ℕ, _+_, _-_, _≤_, _<_};
 ghost use lib.ListN.{getD};
 ghost use Rattle.recurrence.specs.Rounding.{up};
 ghost use Rattle.engine.specs.Figures.{end-at, last-at};
-ghost use Rattle.engine.specs.Loads.{lookedAt};
 ghost use Rattle.engine.specs.Places.{Dealt};
 use crate::figures::END;
 use crate::figures::FigureTable;
@@ -11,24 +10,20 @@ use crate::figures::LAST;
 use crate::numbers::Numbers;
 use crate::numbers::place;
 use crate::rows::Row;
-use crate::terms::Way;
-use crate::terms::looked_at;
 use recurrence::packets;
 
 // Row j: the hits on flow j.
 pub type HitTable = [Numbers; 64];
 
-// The hits of each direct flow, and 0 for the others; none where the method looks at no third flow.
-pub(crate) fn hit_row(way: Way, row: Row, figures: &FigureTable, bound: u32) -> Numbers
-    requires { ⌜ (row .many ≤ 64) × ((m : ℕ) → m < row .many → (getD (row .direct) m 0 < 64) × (last-at (now figures) (getD (row .direct) m 0) ≤ end-at (now figures) (getD (row .direct) m 0)) × (bound + end-at (now figures) (getD (row .direct) m 0) < 4_294_967_295)) ⌝ }
-    ensures { λ r. ⌜ Dealt (λ k. up (bound + (end-at (now (figures .entry)) k - last-at (now (figures .entry)) k)) (last-at (now (figures .entry)) k + 1)) (row .direct) (lookedAt (way .method) (row .many)) r ⌝ }
+// The hits of the first `seen` direct flows, and 0 for the others.
+pub(crate) fn hit_row(row: Row, seen: usize, figures: &FigureTable, bound: u32) -> Numbers
+    requires { ⌜ (seen ≤ 64) × ((m : ℕ) → m < seen → (getD (row .direct) m 0 < 64) × (last-at (now figures) (getD (row .direct) m 0) ≤ end-at (now figures) (getD (row .direct) m 0)) × (bound + end-at (now figures) (getD (row .direct) m 0) < 4_294_967_295)) ⌝ }
+    ensures { λ r. ⌜ Dealt (λ k. up (bound + (end-at (now (figures .entry)) k - last-at (now (figures .entry)) k)) (last-at (now (figures .entry)) k + 1)) (row .direct) seen r ⌝ }
 {
-    let method = way.method;
     let direct = row.direct;
-    let many = looked_at(method, row.many);
     let mut hit = [0; 64];
     let mut m: usize = 0;
-    while m < many {
+    while m < seen {
         let k = place(direct[m]);
         hit[k] = packets(bound, figures[k][END], figures[k][LAST]);
         m += 1;

@@ -14,6 +14,7 @@ use crate::rows::row_of;
 use crate::search::next_flow;
 use crate::search::waits_on;
 use crate::solve::solve;
+use crate::terms::looked_at;
 use crate::terms::way_of;
 use model::Answer;
 use model::Verdict;
@@ -68,14 +69,14 @@ pub fn analyse_plan(plan: Plan) -> Answers
     ensures { λ r. ⌜ r ≡ answerArray (plan .platform) (take (plan .count) (plan .flows)) ⌝ }
 {
     let flows = plan.flows;
-    let platform = plan.platform;
     let count = plan.count;
-    let way = way_of(platform, count);
-    let table = pair_table(platform, flows, count);
+    let way = way_of(plan.platform);
+    let table = pair_table(plan.platform, flows, count);
     let priorities = priorities_of(plan);
+    let mut lists = [[0u8; 64]; 64];
     let mut firsts = [[0u8; 64]; 64];
     let mut hits = [[0u32; 64]; 64];
-    let mut figures = [[0u32; 4]; 64];
+    let mut figures = [[0u32; 5]; 64];
     let mut list = [blank_answer(); 64];
     let mut last: u16 = 0;
     loop {
@@ -88,19 +89,22 @@ pub fn analyse_plan(plan: Plan) -> Answers
         let shared = row.shared;
         let starts = row.firsts;
         let direct = row.direct;
-        let cost = latency(platform, f, shared[i]);
+        let c = latency(plan.platform, f, shared[i]);
         let w = waits_on(row, &priorities, &figures);
         let verdict = if w < 64 {
             let g = flows[place(direct[w])];
             Verdict::Waits(g.id)
         } else {
-            verdict_of(solve(way, i, cost, limit(f), row, &firsts, &hits, &figures))
+            let s = solve(way, i, c, limit(f), row, &lists, &firsts, &hits, &figures);
+            verdict_of(s)
         };
         let bound = bound_of(verdict);
         list[i] = Answer { id: f.id, verdict };
+        let seen = looked_at(way, row.many);
+        lists[i] = direct;
         firsts[i] = starts;
-        hits[i] = hit_row(way, row, &figures, bound);
-        figures[i] = figures_of(f, cost, bound);
+        hits[i] = hit_row(row, seen, &figures, bound);
+        figures[i] = figures_of(f, c, bound, seen);
         last = f.priority;
     }
 }

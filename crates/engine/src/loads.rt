@@ -1,12 +1,14 @@
 // What third flows bring to a pair of flows.
 ghost use mathlib.Core.Path.{_≡_};
-ghost use Prim.Native.Nat.{_+_, _≤_};
+ghost use Prim.Native.Nat.{ℕ, _+_, _≤_, _<_};
+ghost use lib.ListN.{getD};
 ghost use Rattle.engine.specs.Loads.{upPart, downPart, sumTo, upLoad, downLoad};
 use crate::figures::COST;
 use crate::figures::FigureTable;
 use crate::numbers::Bytes;
 use crate::numbers::Numbers;
 use crate::numbers::lesser;
+use crate::numbers::place;
 
 // The hits of the upstream flows at their latencies, and of the downstream flows at no more than the cap.
 pub struct Loads {
@@ -19,9 +21,6 @@ fn with_third(l: Loads, shared: u8, place: u8, first: u8, cap: u32, hit: u32, co
     requires { ⌜ (l .up + upPart shared place first hit cost ≤ 1_000_000_000) × (l .down + downPart shared place first cap hit cost ≤ 1_000_000_000) ⌝ }
     ensures { λ r. ⌜ (r .up ≡ l .up + upPart shared place first hit cost) × (r .down ≡ l .down + downPart shared place first cap hit cost) ⌝ }
 {
-    if hit == 0 {
-        return l;
-    }
     if 0 < shared {
         return l;
     }
@@ -37,21 +36,25 @@ fn with_third(l: Loads, shared: u8, place: u8, first: u8, cap: u32, hit: u32, co
     }
 }
 
+// Over the first `seen` of the second flow's direct flows.
 pub(crate) fn sum_loads(
+    direct: &Bytes,
+    seen: usize,
     shared: &Bytes,
     places: &Bytes,
     hit: &Numbers,
     figures: &FigureTable,
     first: u8,
     cap: u32,
-    count: usize,
 ) -> Loads
-    requires { ⌜ (count ≤ 64) × (sumTo count (upLoad (now shared) (now places) (now hit) (now figures) first) ≤ 1_000_000_000) × (sumTo count (downLoad (now shared) (now places) (now hit) (now figures) first cap) ≤ 1_000_000_000) ⌝ }
-    ensures { λ r. ⌜ (r .up ≡ sumTo count (upLoad (now (shared .entry)) (now (places .entry)) (now (hit .entry)) (now (figures .entry)) first)) × (r .down ≡ sumTo count (downLoad (now (shared .entry)) (now (places .entry)) (now (hit .entry)) (now (figures .entry)) first cap)) ⌝ }
+    requires { ⌜ (seen ≤ 64) × ((m : ℕ) → m < seen → getD (now direct) m 0 < 64) ⌝ }
+    requires { ⌜ (sumTo seen (λ m. upLoad (now shared) (now places) (now hit) (now figures) first (getD (now direct) m 0)) ≤ 1_000_000_000) × (sumTo seen (λ m. downLoad (now shared) (now places) (now hit) (now figures) first cap (getD (now direct) m 0)) ≤ 1_000_000_000) ⌝ }
+    ensures { λ r. ⌜ (r .up ≡ sumTo seen (λ m. upLoad (now (shared .entry)) (now (places .entry)) (now (hit .entry)) (now (figures .entry)) first (getD (now (direct .entry)) m 0))) × (r .down ≡ sumTo seen (λ m. downLoad (now (shared .entry)) (now (places .entry)) (now (hit .entry)) (now (figures .entry)) first cap (getD (now (direct .entry)) m 0))) ⌝ }
 {
     let mut l = Loads { up: 0, down: 0 };
-    let mut k: usize = 0;
-    while k < count {
+    let mut m: usize = 0;
+    while m < seen {
+        let k = place(direct[m]);
         l = with_third(
             l,
             shared[k],
@@ -61,7 +64,7 @@ pub(crate) fn sum_loads(
             hit[k],
             figures[k][COST],
         );
-        k += 1;
+        m += 1;
     }
     l
 }

@@ -9,6 +9,7 @@ use crate::figures::COST;
 use crate::figures::END;
 use crate::figures::FigureTable;
 use crate::figures::LAST;
+use crate::figures::SEEN;
 use crate::hits::HitTable;
 use crate::loads::sum_loads;
 use crate::numbers::Bytes;
@@ -20,8 +21,8 @@ use crate::terms::term_of;
 use recurrence::Settled;
 use recurrence::settle;
 
-// Row j: the first places on the route of flow j.
-pub type PlaceTable = [Bytes; 64];
+// Row j: the direct flows of flow j, or the first places on its route.
+pub type ByteTable = [Bytes; 64];
 
 // The flow at i, of the latency `cost`.
 pub(crate) fn solve(
@@ -30,12 +31,13 @@ pub(crate) fn solve(
     cost: u32,
     limit: u32,
     row: Row,
-    firsts: &PlaceTable,
+    lists: &ByteTable,
+    firsts: &ByteTable,
     hits: &HitTable,
     figures: &FigureTable,
 ) -> Settled
-    requires { ⌜ Solvable way i cost limit row (now firsts) (now hits) (now figures) ⌝ }
-    ensures { λ r. ⌜ Allowed (rightSide cost (map (termAt way i (row .shared) (now (firsts .entry)) (now (hits .entry)) (now (figures .entry))) (take (row .many) (row .direct)))) cost limit r ⌝ }
+    requires { ⌜ Solvable way i cost limit row (now lists) (now firsts) (now hits) (now figures) ⌝ }
+    ensures { λ r. ⌜ Allowed (rightSide cost (map (termAt way i (row .shared) (now (lists .entry)) (now (firsts .entry)) (now (hits .entry)) (now (figures .entry))) (take (row .many) (row .direct)))) cost limit r ⌝ }
 {
     let method = way.method;
     let platform = way.platform;
@@ -50,8 +52,18 @@ pub(crate) fn solve(
         let j = place(direct[m]);
         let first = firsts[j][i];
         let cap = cap_of(method, platform, shared[j]);
-        let l = sum_loads(&shared, &firsts[j], &hits[j], figures, first, cap, way.seen);
         let g = figures[j];
+        let seen = g[SEEN] as usize;
+        let l = sum_loads(
+            &lists[j],
+            seen,
+            &shared,
+            &firsts[j],
+            &hits[j],
+            figures,
+            first,
+            cap,
+        );
         let t = term_of(method, g[END], g[LAST], g[BOUND], g[COST], l);
         ends[m] = t.end;
         lasts[m] = t.last;

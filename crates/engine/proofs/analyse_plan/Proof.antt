@@ -5,17 +5,17 @@ use mathlib.Core.Path.{ap, _∙_}
 use mathlib.Core.Logic.{⊎-elim}
 use lib.ListN.{replicate}
 use Rattle.engine.proofs.Turns.{here, waits-read, free, solvable, solved}
-use Rattle.engine.proofs.Answering.{Answering, answering-none, sooner, latency-asked, turned, direct-low, hits-asked, figures-asked, answering-more, answering-all}
+use Rattle.engine.proofs.Answering.{Answering, answering-none, sooner, latency-asked, turned, direct-low, hits-asked, figures-fit, answering-more, answering-all}
 use borrow.Author.Needs.{needs}
 use Rattle.engine.proofs.analyse_plan.Statement.{statement}
 use Rattle.engine.proofs.analyse_plan.Tie as tie
 
 abbrev Inv-loop : tie.InvT-loop
-Inv-loop flows platform count way table priorities firsts₀ hits₀ figures₀ list₀ last₀ firsts hits figures list last =
-    Answering platform flows count table priorities firsts hits figures list last
+Inv-loop plan flows count way table priorities lists₀ firsts₀ hits₀ figures₀ list₀ last₀ lists firsts hits figures list last =
+    Answering (plan .platform) flows count table priorities lists firsts hits figures list last
 
 abbrev μ-loop : tie.MeasureT-loop
-μ-loop flows platform count way table priorities firsts₀ hits₀ figures₀ list₀ last₀ firsts hits figures list last = 65536 - last
+μ-loop plan flows count way table priorities lists₀ firsts₀ hits₀ figures₀ list₀ last₀ lists firsts hits figures list last = 65536 - last
 
 way-of-requires : tie.Need-way-of-requires Inv-loop μ-loop
 way-of-requires c κs = search needs
@@ -24,13 +24,13 @@ pair-table-requires : tie.Need-pair-table-requires Inv-loop μ-loop
 pair-table-requires c κs = search needs
 
 priorities-of-requires : tie.Need-priorities-of-requires Inv-loop μ-loop
-priorities-of-requires c κs = c .before .before .before .before .pre
+priorities-of-requires c κs = c .before .before .before .pre
 
 blank-answer-requires : tie.Need-blank-answer-requires Inv-loop μ-loop
 blank-answer-requires c κs = search needs
 
 loop-holds : tie.Need-loop-holds Inv-loop μ-loop
-loop-holds c = answering-none (c .before .before .before .before .before .before .pre) (c .before .before .pair-table .ensures) (c .before .priorities-of .ensures) (search needs) (search needs) (search needs) (ap (replicate 64) (c .blank-answer .ensures))
+loop-holds c = answering-none (c .before .before .before .before .before .pre) (c .before .before .pair-table .ensures) (c .before .priorities-of .ensures) (search needs) (search needs) (search needs) (search needs) (ap (replicate 64) (c .blank-answer .ensures))
 
 next-flow-requires : tie.Need-next-flow-requires Inv-loop μ-loop
 next-flow-requires c κs = c .before .loop .inv .scene .few
@@ -79,8 +79,8 @@ limit-requires : tie.Need-limit-requires Inv-loop μ-loop
 limit-requires c κs = search needs
 
 solve-requires : tie.Need-solve-requires Inv-loop μ-loop
-solve-requires c κs = let t = turned (c .before .before .before .before .before .before .before .before .before .before .before .before .before .before .before .before .before .before .before .loop .inv) (c .before .before .before .before .before .before .before .before .before .before .before .before .before .before .before .before .before .next-flow .ensures) (c .before .before .before .before .before .before .before .before .before .before .before .before .before .before .before .before .if1 .left) _ (c .before .before .before .before .before .before .before .before .before .before .before .before .row-of .ensures) in
-    solvable t (free t (c .before .before .before .before .before .waits-on .ensures .1) (c .before .before .before .before .if2 .left)) (c .before .before .before .before .before .before .before .before .before .before .before .before .before .before .before .before .before .before .before .before .before .before .before .way-of .ensures) (c .before .before .before .before .before .before .before .before .latency .ensures) (c .before .before .before .limit .ensures)
+solve-requires c κs = let t = turned (c .before .before .before .before .before .before .before .before .before .before .before .before .before .before .before .before .before .before .before .before .loop .inv) (c .before .before .before .before .before .before .before .before .before .before .before .before .before .before .before .before .before .before .next-flow .ensures) (c .before .before .before .before .before .before .before .before .before .before .before .before .before .before .before .before .before .if1 .left) _ (c .before .before .before .before .before .before .before .before .before .before .before .before .before .row-of .ensures) in
+    solvable t (free t (c .before .before .before .before .before .before .waits-on .ensures .1) (c .before .before .before .before .before .if2 .left)) (c .before .before .before .before .before .before .before .before .before .before .before .before .before .before .before .before .before .before .before .before .before .before .before .before .way-of .ensures) (c .before .before .before .before .before .before .before .before .before .latency .ensures) (c .before .before .before .before .limit .ensures)
 
 verdict-of-requires : tie.Need-verdict-of-requires Inv-loop μ-loop
 verdict-of-requires c κs = search needs
@@ -94,47 +94,56 @@ mul-list c = search needs
 array-set-from-list : tie.Need-array-set-from-list Inv-loop μ-loop
 array-set-from-list c = omega (arith, c .before .before .before .before .before .before .before .before .before .before .before .before .before .before .next-flow .ensures .0, c .before .before .before .before .before .before .before .before .before .before .before .before .before .if1 .left)
 
+looked-at-requires : tie.Need-looked-at-requires Inv-loop μ-loop
+looked-at-requires c κs = search needs
+
+mul-lists : tie.Need-mul-lists Inv-loop μ-loop
+mul-lists c = search needs
+
+array-set-from-lists : tie.Need-array-set-from-lists Inv-loop μ-loop
+array-set-from-lists c = omega (arith, c .before .before .before .before .before .before .before .before .before .before .before .before .before .before .before .next-flow .ensures .0, c .before .before .before .before .before .before .before .before .before .before .before .before .before .before .if1 .left)
+
 mul-firsts : tie.Need-mul-firsts Inv-loop μ-loop
 mul-firsts c = search needs
 
 array-set-from-firsts : tie.Need-array-set-from-firsts Inv-loop μ-loop
-array-set-from-firsts c = omega (arith, c .before .before .before .before .before .before .before .before .before .before .before .before .before .before .next-flow .ensures .0, c .before .before .before .before .before .before .before .before .before .before .before .before .before .if1 .left)
+array-set-from-firsts c = omega (arith, c .before .before .before .before .before .before .before .before .before .before .before .before .before .before .before .next-flow .ensures .0, c .before .before .before .before .before .before .before .before .before .before .before .before .before .before .if1 .left)
 
 hit-row-requires : tie.Need-hit-row-requires Inv-loop μ-loop
-hit-row-requires c κs = let t = turned (c .before .before .before .before .before .before .before .before .before .before .before .before .before .before .before .before .before .loop .inv) (c .before .before .before .before .before .before .before .before .before .before .before .before .before .before .before .next-flow .ensures) (c .before .before .before .before .before .before .before .before .before .before .before .before .before .before .if1 .left) _ (c .before .before .before .before .before .before .before .before .before .before .row-of .ensures) in
-    let s = c .before .before .before .waits-on .ensures .1 in
+hit-row-requires c κs = let t = turned (c .before .before .before .before .before .before .before .before .before .before .before .before .before .before .before .before .before .before .loop .inv) (c .before .before .before .before .before .before .before .before .before .before .before .before .before .before .before .before .next-flow .ensures) (c .before .before .before .before .before .before .before .before .before .before .before .before .before .before .before .if1 .left) _ (c .before .before .before .before .before .before .before .before .before .before .before .row-of .ensures) in
+    let s = c .before .before .before .before .waits-on .ensures .1 in
     let v = ⊎-elim
     (λ a. a .3 ∙ waits-read t s (a .0 .taken) (a .1 .ensures .0))
-    (λ b. solved t (free t s (b .0 .left)) (c .before .before .before .before .before .before .before .before .before .before .before .before .before .before .before .before .before .before .before .before .before .way-of .ensures) (c .before .before .before .before .before .before .latency .ensures) (b .1 .ensures) (b .5 .ensures) (b .7 ∙ b .6 .ensures))
-    (c .before .before .if2 .came) in
-    hits-asked (c .before .before .before .before .before .before .before .before .before .before .before .before .before .before .before .before .before .loop .inv) (c .before .before .before .before .before .before .before .before .before .before .before .before .before .before .before .next-flow .ensures) (c .before .before .before .before .before .before .before .before .before .before .before .before .before .before .if1 .left) _ (c .before .before .before .before .before .before .before .before .before .before .row-of .ensures) v (c .before .bound-of .ensures)
+    (λ b. solved t (free t s (b .0 .left)) (c .before .before .before .before .before .before .before .before .before .before .before .before .before .before .before .before .before .before .before .before .before .before .way-of .ensures) (c .before .before .before .before .before .before .before .latency .ensures) (b .1 .ensures) (b .6 .ensures) (b .8 ∙ b .7 .ensures))
+    (c .before .before .before .if2 .came) in
+    hits-asked (c .before .before .before .before .before .before .before .before .before .before .before .before .before .before .before .before .before .before .loop .inv) (c .before .before .before .before .before .before .before .before .before .before .before .before .before .before .before .before .next-flow .ensures) (c .before .before .before .before .before .before .before .before .before .before .before .before .before .before .before .if1 .left) _ (c .before .before .before .before .before .before .before .before .before .before .before .row-of .ensures) v (c .before .before .bound-of .ensures) (c .before .looked-at .ensures .1)
 
 mul-hits : tie.Need-mul-hits Inv-loop μ-loop
 mul-hits c = search needs
 
 array-set-from-hits : tie.Need-array-set-from-hits Inv-loop μ-loop
-array-set-from-hits c = omega (arith, c .before .before .before .before .before .before .before .before .before .before .before .before .before .before .before .before .next-flow .ensures .0, c .before .before .before .before .before .before .before .before .before .before .before .before .before .before .before .if1 .left)
+array-set-from-hits c = omega (arith, c .before .before .before .before .before .before .before .before .before .before .before .before .before .before .before .before .before .next-flow .ensures .0, c .before .before .before .before .before .before .before .before .before .before .before .before .before .before .before .before .if1 .left)
 
 figures-of-requires : tie.Need-figures-of-requires Inv-loop μ-loop
-figures-of-requires c κs = figures-asked (c .before .before .before .before .before .before .before .before .before .before .before .before .before .before .before .before .before .before .loop .inv) (c .before .before .before .before .before .before .before .before .before .before .before .before .before .before .before .before .next-flow .ensures) (c .before .before .before .before .before .before .before .before .before .before .before .before .before .before .before .if1 .left)
+figures-of-requires c κs = figures-fit (c .before .before .before .before .before .before .before .before .before .before .before .before .before .before .before .before .before .before .before .loop .inv) (c .before .before .before .before .before .before .before .before .before .before .before .before .before .before .before .before .before .next-flow .ensures) (c .before .before .before .before .before .before .before .before .before .before .before .before .before .before .before .before .if1 .left) _ (c .before .before .before .before .before .before .before .before .before .before .before .before .row-of .ensures) (c .before .before .looked-at .ensures .1)
 
 mul-figures : tie.Need-mul-figures Inv-loop μ-loop
 mul-figures c = search needs
 
 array-set-from-figures : tie.Need-array-set-from-figures Inv-loop μ-loop
-array-set-from-figures c = omega (arith, c .before .before .before .before .before .before .before .before .before .before .before .before .before .before .before .before .before .next-flow .ensures .0, c .before .before .before .before .before .before .before .before .before .before .before .before .before .before .before .before .if1 .left)
+array-set-from-figures c = omega (arith, c .before .before .before .before .before .before .before .before .before .before .before .before .before .before .before .before .before .before .next-flow .ensures .0, c .before .before .before .before .before .before .before .before .before .before .before .before .before .before .before .before .before .if1 .left)
 
 loop-less : tie.Need-loop-less Inv-loop μ-loop
-loop-less c = sooner (c .before .before .before .before .before .before .before .before .before .before .before .before .before .before .before .before .before .before .before .loop .inv) (c .before .before .before .before .before .before .before .before .before .before .before .before .before .before .before .before .before .next-flow .ensures) (c .before .before .before .before .before .before .before .before .before .before .before .before .before .before .before .before .if1 .left)
+loop-less c = sooner (c .before .before .before .before .before .before .before .before .before .before .before .before .before .before .before .before .before .before .before .before .loop .inv) (c .before .before .before .before .before .before .before .before .before .before .before .before .before .before .before .before .before .before .next-flow .ensures) (c .before .before .before .before .before .before .before .before .before .before .before .before .before .before .before .before .before .if1 .left)
 
 loop-again : tie.Need-loop-again Inv-loop μ-loop
-loop-again c = let t = turned (c .before .before .before .before .before .before .before .before .before .before .before .before .before .before .before .before .before .before .before .loop .inv) (c .before .before .before .before .before .before .before .before .before .before .before .before .before .before .before .before .before .next-flow .ensures) (c .before .before .before .before .before .before .before .before .before .before .before .before .before .before .before .before .if1 .left) _ (c .before .before .before .before .before .before .before .before .before .before .before .before .row-of .ensures) in
-    let s = c .before .before .before .before .before .waits-on .ensures .1 in
+loop-again c = let t = turned (c .before .before .before .before .before .before .before .before .before .before .before .before .before .before .before .before .before .before .before .before .loop .inv) (c .before .before .before .before .before .before .before .before .before .before .before .before .before .before .before .before .before .before .next-flow .ensures) (c .before .before .before .before .before .before .before .before .before .before .before .before .before .before .before .before .before .if1 .left) _ (c .before .before .before .before .before .before .before .before .before .before .before .before .before .row-of .ensures) in
+    let s = c .before .before .before .before .before .before .waits-on .ensures .1 in
     let v = ⊎-elim
     (λ a. a .3 ∙ waits-read t s (a .0 .taken) (a .1 .ensures .0))
-    (λ b. solved t (free t s (b .0 .left)) (c .before .before .before .before .before .before .before .before .before .before .before .before .before .before .before .before .before .before .before .before .before .before .before .way-of .ensures) (c .before .before .before .before .before .before .before .before .latency .ensures) (b .1 .ensures) (b .5 .ensures) (b .7 ∙ b .6 .ensures))
-    (c .before .before .before .before .if2 .came) in
-    answering-more (c .before .before .before .before .before .before .before .before .before .before .before .before .before .before .before .before .before .before .before .loop .inv) (c .before .before .before .before .before .before .before .before .before .before .before .before .before .before .before .before .before .next-flow .ensures) (c .before .before .before .before .before .before .before .before .before .before .before .before .before .before .before .before .if1 .left) _ (c .before .before .before .before .before .before .before .before .before .before .before .before .row-of .ensures) v (c .before .before .before .bound-of .ensures) (c .before .before .before .before .before .before .before .before .before .before .before .before .before .before .before .before .before .before .before .before .before .before .before .way-of .ensures .0) (c .before .before .before .before .before .before .before .before .latency .ensures) (c .before .hit-row .ensures) (c .figures-of .ensures)
+    (λ b. solved t (free t s (b .0 .left)) (c .before .before .before .before .before .before .before .before .before .before .before .before .before .before .before .before .before .before .before .before .before .before .before .before .way-of .ensures) (c .before .before .before .before .before .before .before .before .before .latency .ensures) (b .1 .ensures) (b .6 .ensures) (b .8 ∙ b .7 .ensures))
+    (c .before .before .before .before .before .if2 .came) in
+    answering-more (c .before .before .before .before .before .before .before .before .before .before .before .before .before .before .before .before .before .before .before .before .loop .inv) (c .before .before .before .before .before .before .before .before .before .before .before .before .before .before .before .before .before .before .next-flow .ensures) (c .before .before .before .before .before .before .before .before .before .before .before .before .before .before .before .before .before .if1 .left) _ (c .before .before .before .before .before .before .before .before .before .before .before .before .before .row-of .ensures) v (c .before .before .before .before .bound-of .ensures) (c .before .before .before .before .before .before .before .before .before .before .before .before .before .before .before .before .before .before .before .before .before .before .before .before .way-of .ensures) (c .before .before .before .looked-at .ensures .0) (c .before .before .before .before .before .before .before .before .before .latency .ensures) (c .before .hit-row .ensures) (c .figures-of .ensures)
 
 pub analyse-plan-spec : {M : Type 1} → statement M
 analyse-plan-spec =
@@ -167,6 +176,9 @@ analyse-plan-spec =
     bound-of-requires
     mul-list
     array-set-from-list
+    looked-at-requires
+    mul-lists
+    array-set-from-lists
     mul-firsts
     array-set-from-firsts
     hit-row-requires

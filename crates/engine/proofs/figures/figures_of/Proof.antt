@@ -10,8 +10,11 @@ returns c = refl
 sub-last : tie.Need-sub-last
 sub-last c = search needs
 
-add-t5 : tie.Need-add-t5
-add-t5 c = search needs
+add-t6 : tie.Need-add-t6
+add-t6 c = search needs
+
+cast-t7 : tie.Need-cast-t7
+cast-t7 c = search needs
 
 pub figures-of-spec : {M : Type 1} → statement M
-figures-of-spec = tie.close (tie.spec sub-last add-t5 returns)
+figures-of-spec = tie.close (tie.spec sub-last add-t6 cast-t7 returns)

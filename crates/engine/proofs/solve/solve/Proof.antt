@@ -11,11 +11,11 @@ use Rattle.engine.proofs.solve.solve.Statement.{statement}
 use Rattle.engine.proofs.solve.solve.Tie as tie
 
 abbrev Inv-loop : tie.InvT-loop
-Inv-loop way i cost limit firsts hits figures method platform shared direct many ends₀ lasts₀ weights₀ m₀ ends lasts weights m =
-    Holding (termAt way i shared firsts hits figures) direct many ends lasts weights m
+Inv-loop i cost limit lists firsts hits figures method platform shared direct many ends₀ lasts₀ weights₀ m₀ ends lasts weights m =
+    Holding (termAt (record { method = method; platform = platform }) i shared lists firsts hits figures) direct many ends lasts weights m
 
 abbrev μ-loop : tie.MeasureT-loop
-μ-loop way i cost limit firsts hits figures method platform shared direct many ends₀ lasts₀ weights₀ m₀ ends lasts weights m = many - m
+μ-loop i cost limit lists firsts hits figures method platform shared direct many ends₀ lasts₀ weights₀ m₀ ends lasts weights m = many - m
 
 loop-holds : tie.Need-loop-holds Inv-loop μ-loop
 loop-holds c = holding-none _ _ _ _ _ _ (c .before .before .before .pre .few) (c .before .before .before .pre .long) (search needs) (search needs) (search needs)
@@ -41,6 +41,18 @@ array-read-cap-of c = omega (arith, c .before .place .ensures, c .before .before
 cap-of-requires : tie.Need-cap-of-requires Inv-loop μ-loop
 cap-of-requires c κs = search needs
 
+mul-g : tie.Need-mul-g Inv-loop μ-loop
+mul-g c = search needs
+
+element-copy-out-g : tie.Need-element-copy-out-g Inv-loop μ-loop
+element-copy-out-g c = omega (arith, c .before .before .place .ensures, c .before .before .before .before .before .before .before .before .pre .each (c .before .before .before .before .loop .m) (c .before .before .before .loop-test .taken) .inside)
+
+array-read-seen : tie.Need-array-read-seen Inv-loop μ-loop
+array-read-seen c = search needs
+
+cast-seen : tie.Need-cast-seen Inv-loop μ-loop
+cast-seen c = let q = c .before .before .before .before .before .before .before .before .before .pre .each (c .before .before .before .before .before .loop .m) (c .before .before .before .before .loop-test .taken) in record { fits = rw (c .before .before .before .place .ensures .0) (omega (arith, q .seen)) }
+
 mul-sum-loads : tie.Need-mul-sum-loads Inv-loop μ-loop
 mul-sum-loads c = search needs
 
@@ -51,17 +63,17 @@ mul-sum-loads-2 : tie.Need-mul-sum-loads-2 Inv-loop μ-loop
 mul-sum-loads-2 c = search needs
 
 index-1-sum-loads-2 : tie.Need-index-1-sum-loads-2 Inv-loop μ-loop
-index-1-sum-loads-2 c = omega (arith, c .before .before .before .before .place .ensures, c .before .before .before .before .before .before .before .before .before .before .pre .each (c .before .before .before .before .before .before .loop .m) (c .before .before .before .before .before .loop-test .taken) .inside)
+index-1-sum-loads-2 c = omega (arith, c .before .before .before .before .before .place .ensures, c .before .before .before .before .before .before .before .before .before .before .before .pre .each (c .before .before .before .before .before .before .before .loop .m) (c .before .before .before .before .before .before .loop-test .taken) .inside)
+
+mul-sum-loads-3 : tie.Need-mul-sum-loads-3 Inv-loop μ-loop
+mul-sum-loads-3 c = search needs
+
+index-1-sum-loads-3 : tie.Need-index-1-sum-loads-3 Inv-loop μ-loop
+index-1-sum-loads-3 c = omega (arith, c .before .before .before .before .before .before .place .ensures, c .before .before .before .before .before .before .before .before .before .before .before .before .pre .each (c .before .before .before .before .before .before .before .before .loop .m) (c .before .before .before .before .before .before .before .loop-test .taken) .inside)
 
 sum-loads-requires : tie.Need-sum-loads-requires Inv-loop μ-loop
-sum-loads-requires c κs = let q = c .before .before .before .before .before .before .before .before .before .before .before .pre .each (c .before .before .before .before .before .before .before .loop .m) (c .before .before .before .before .before .before .loop-test .taken) in
-    rw (c .before .before .before .cap-of .ensures, c .before .before .before .before .before .place .ensures .0) (c .before .before .before .before .before .before .before .before .before .before .before .pre .seen, omega (arith, q .bound, q .up), omega (arith, q .bound, q .down))
-
-mul-g : tie.Need-mul-g Inv-loop μ-loop
-mul-g c = search needs
-
-element-copy-out-g : tie.Need-element-copy-out-g Inv-loop μ-loop
-element-copy-out-g c = omega (arith, c .before .before .before .before .before .before .place .ensures, c .before .before .before .before .before .before .before .before .before .before .before .before .pre .each (c .before .before .before .before .before .before .before .before .loop .m) (c .before .before .before .before .before .before .before .loop-test .taken) .inside)
+sum-loads-requires c κs = let q = c .before .before .before .before .before .before .before .before .before .before .before .before .before .pre .each (c .before .before .before .before .before .before .before .before .before .loop .m) (c .before .before .before .before .before .before .before .before .loop-test .taken) in
+    rw (c .before .before .before .before .before .cap-of .ensures, c .before .before .before .before .before .before .before .place .ensures .0) ((q .seen, q .thirds), (omega (arith, q .bound, q .up), omega (arith, q .bound, q .down)))
 
 array-read-term-of : tie.Need-array-read-term-of Inv-loop μ-loop
 array-read-term-of c = search needs
@@ -76,9 +88,9 @@ array-read-term-of-4 : tie.Need-array-read-term-of-4 Inv-loop μ-loop
 array-read-term-of-4 c = search needs
 
 term-of-requires : tie.Need-term-of-requires Inv-loop μ-loop
-term-of-requires c κs = let q = c .before .before .before .before .before .before .before .before .before .before .before .before .before .pre .each (c .before .before .before .before .before .before .before .before .before .loop .m) (c .before .before .before .before .before .before .before .before .loop-test .taken) in
-    let l = rw (c .before .before .before .before .before .cap-of .ensures, c .before .before .before .before .before .before .before .place .ensures .0) at (c .before .sum-loads .ensures) in
-    rw (c .before .before .before .before .before .before .before .place .ensures .0) (q .bound, q .end, omega (arith, q .up, l .0), omega (arith, q .down, l .1))
+term-of-requires c κs = let q = c .before .before .before .before .before .before .before .before .before .before .before .before .before .before .pre .each (c .before .before .before .before .before .before .before .before .before .before .loop .m) (c .before .before .before .before .before .before .before .before .before .loop-test .taken) in
+    let l = rw (c .before .before .before .before .before .before .cap-of .ensures, c .before .before .before .before .before .before .before .before .place .ensures .0) at (c .sum-loads .ensures) in
+    rw (c .before .before .before .before .before .before .before .before .place .ensures .0) (q .bound, q .end, omega (arith, q .up, l .0), omega (arith, q .down, l .1))
 
 mul-ends : tie.Need-mul-ends Inv-loop μ-loop
 mul-ends c = search needs
@@ -105,11 +117,11 @@ loop-less : tie.Need-loop-less Inv-loop μ-loop
 loop-less c = search needs
 
 loop-again : tie.Need-loop-again Inv-loop μ-loop
-loop-again c = let h = c .before .before .before .before .before .before .before .before .before .loop-test .taken in
-    let q = c .before .before .before .before .before .before .before .before .before .before .before .before .before .before .pre .each (c .before .before .before .before .before .before .before .before .before .before .loop .m) h in
-    let l = rw (c .before .before .before .before .before .before .cap-of .ensures, c .before .before .before .before .before .before .before .before .place .ensures .0) at (c .before .before .sum-loads .ensures) in
-    let e = rw (c .before .before .before .before .before .before .before .before .place .ensures .0, l .0, l .1) at (c .term-of .ensures) in
-    holding-more (c .before .before .before .before .before .before .before .before .before .before .loop .inv) h (rw e (omega (arith, q .ordered))) (ap (λ (x : Term). held (x .end) (x .last) (x .weight)) e)
+loop-again c = let h = c .before .before .before .before .before .before .before .before .before .before .loop-test .taken in
+    let q = c .before .before .before .before .before .before .before .before .before .before .before .before .before .before .before .pre .each (c .before .before .before .before .before .before .before .before .before .before .before .loop .m) h in
+    let l = rw (c .before .before .before .before .before .before .before .cap-of .ensures, c .before .before .before .before .before .before .before .before .before .place .ensures .0) at (c .before .sum-loads .ensures) in
+    let e = rw (c .before .before .before .before .before .before .before .before .before .place .ensures .0, l .0, l .1) at (c .term-of .ensures) in
+    holding-more (c .before .before .before .before .before .before .before .before .before .before .before .loop .inv) h (rw e (omega (arith, q .ordered))) (ap (λ (x : Term). held (x .end) (x .last) (x .weight)) e)
 
 settle-requires : tie.Need-settle-requires Inv-loop μ-loop
 settle-requires c κs = let a = holding-all (c .before .before .before .before .loop .inv) (search needs) in
@@ -132,13 +144,17 @@ solve-spec =
     index-2-first
     array-read-cap-of
     cap-of-requires
+    mul-g
+    element-copy-out-g
+    array-read-seen
+    cast-seen
     mul-sum-loads
     index-1-sum-loads
     mul-sum-loads-2
     index-1-sum-loads-2
+    mul-sum-loads-3
+    index-1-sum-loads-3
     sum-loads-requires
-    mul-g
-    element-copy-out-g
     array-read-term-of
     array-read-term-of-2
     array-read-term-of-3
