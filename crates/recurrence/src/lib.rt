@@ -13,6 +13,9 @@ pub enum Settled {
     Late(u32),
 }
 
+// A column: a number of each term.
+pub type Column = [u32; 64];
+
 // Widening by a call asks no proof that the number fits.
 fn wide(x: u32) -> u64
     ensures { λ r. ⌜ r ≡ x ⌝ }
@@ -41,9 +44,9 @@ fn delay(x: u32, end: u32, last: u32, weight: u32) -> u64
 pub fn settle(
     c: u32,
     limit: u32,
-    ends: &[u32; 64],
-    lasts: &[u32; 64],
-    weights: &[u32; 64],
+    ends: &Column,
+    lasts: &Column,
+    weights: &Column,
     count: usize,
 ) -> Settled
     requires { ⌜ Given c limit (now ends) (now lasts) (now weights) count ⌝ }
