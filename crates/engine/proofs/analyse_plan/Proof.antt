@@ -39,13 +39,13 @@ returns : tie.Need-returns Inv-loop μ-loop
 returns c = answering-all (c .before .before .before .loop .inv) (c .before .next-flow .ensures) (omega (arith, c .if1 .taken))
 
 mul-f : tie.Need-mul-f Inv-loop μ-loop
-mul-f c = search needs
+mul-f c = record { fits = omega (arith, c .before .next-flow .ensures .0) }
 
 array-copy-out-f : tie.Need-array-copy-out-f Inv-loop μ-loop
 array-copy-out-f c = omega (arith, c .before .next-flow .ensures .0, c .if1 .left)
 
 mul-row-of : tie.Need-mul-row-of Inv-loop μ-loop
-mul-row-of c = search needs
+mul-row-of c = record { fits = omega (arith, c .before .before .next-flow .ensures .0) }
 
 array-copy-out-row-of : tie.Need-array-copy-out-row-of Inv-loop μ-loop
 array-copy-out-row-of c = omega (arith, c .before .before .next-flow .ensures .0, c .before .if1 .left)
@@ -89,7 +89,7 @@ bound-of-requires : tie.Need-bound-of-requires Inv-loop μ-loop
 bound-of-requires c κs = search needs
 
 mul-list : tie.Need-mul-list Inv-loop μ-loop
-mul-list c = search needs
+mul-list c = record { fits = omega (arith, c .before .before .before .before .before .before .before .before .before .before .before .before .before .before .next-flow .ensures .0) }
 
 array-set-from-list : tie.Need-array-set-from-list Inv-loop μ-loop
 array-set-from-list c = omega (arith, c .before .before .before .before .before .before .before .before .before .before .before .before .before .before .next-flow .ensures .0, c .before .before .before .before .before .before .before .before .before .before .before .before .before .if1 .left)
@@ -98,13 +98,13 @@ looked-at-requires : tie.Need-looked-at-requires Inv-loop μ-loop
 looked-at-requires c κs = search needs
 
 mul-lists : tie.Need-mul-lists Inv-loop μ-loop
-mul-lists c = search needs
+mul-lists c = record { fits = omega (arith, c .before .before .before .before .before .before .before .before .before .before .before .before .before .before .before .next-flow .ensures .0) }
 
 array-set-from-lists : tie.Need-array-set-from-lists Inv-loop μ-loop
 array-set-from-lists c = omega (arith, c .before .before .before .before .before .before .before .before .before .before .before .before .before .before .before .next-flow .ensures .0, c .before .before .before .before .before .before .before .before .before .before .before .before .before .before .if1 .left)
 
 mul-firsts : tie.Need-mul-firsts Inv-loop μ-loop
-mul-firsts c = search needs
+mul-firsts c = record { fits = omega (arith, c .before .before .before .before .before .before .before .before .before .before .before .before .before .before .before .next-flow .ensures .0) }
 
 array-set-from-firsts : tie.Need-array-set-from-firsts Inv-loop μ-loop
 array-set-from-firsts c = omega (arith, c .before .before .before .before .before .before .before .before .before .before .before .before .before .before .before .next-flow .ensures .0, c .before .before .before .before .before .before .before .before .before .before .before .before .before .before .if1 .left)
@@ -119,7 +119,7 @@ hit-row-requires c κs = let t = turned (c .before .before .before .before .befo
     hits-asked (c .before .before .before .before .before .before .before .before .before .before .before .before .before .before .before .before .before .before .loop .inv) (c .before .before .before .before .before .before .before .before .before .before .before .before .before .before .before .before .next-flow .ensures) (c .before .before .before .before .before .before .before .before .before .before .before .before .before .before .before .if1 .left) _ (c .before .before .before .before .before .before .before .before .before .before .before .row-of .ensures) v (c .before .before .bound-of .ensures) (c .before .looked-at .ensures .1)
 
 mul-hits : tie.Need-mul-hits Inv-loop μ-loop
-mul-hits c = search needs
+mul-hits c = record { fits = omega (arith, c .before .before .before .before .before .before .before .before .before .before .before .before .before .before .before .before .before .next-flow .ensures .0) }
 
 array-set-from-hits : tie.Need-array-set-from-hits Inv-loop μ-loop
 array-set-from-hits c = omega (arith, c .before .before .before .before .before .before .before .before .before .before .before .before .before .before .before .before .before .next-flow .ensures .0, c .before .before .before .before .before .before .before .before .before .before .before .before .before .before .before .before .if1 .left)
@@ -128,7 +128,7 @@ figures-of-requires : tie.Need-figures-of-requires Inv-loop μ-loop
 figures-of-requires c κs = figures-fit (c .before .before .before .before .before .before .before .before .before .before .before .before .before .before .before .before .before .before .before .loop .inv) (c .before .before .before .before .before .before .before .before .before .before .before .before .before .before .before .before .before .next-flow .ensures) (c .before .before .before .before .before .before .before .before .before .before .before .before .before .before .before .before .if1 .left) _ (c .before .before .before .before .before .before .before .before .before .before .before .before .row-of .ensures) (c .before .before .looked-at .ensures .1)
 
 mul-figures : tie.Need-mul-figures Inv-loop μ-loop
-mul-figures c = search needs
+mul-figures c = record { fits = omega (arith, c .before .before .before .before .before .before .before .before .before .before .before .before .before .before .before .before .before .before .next-flow .ensures .0) }
 
 array-set-from-figures : tie.Need-array-set-from-figures Inv-loop μ-loop
 array-set-from-figures c = omega (arith, c .before .before .before .before .before .before .before .before .before .before .before .before .before .before .before .before .before .before .next-flow .ensures .0, c .before .before .before .before .before .before .before .before .before .before .before .before .before .before .before .before .before .if1 .left)

@@ -21,13 +21,13 @@ loop-holds : tie.Need-loop-holds Inv-loop μ-loop
 loop-holds c = holding-none _ _ _ _ _ _ (c .before .before .before .pre .few) (c .before .before .before .pre .long) (search needs) (search needs) (search needs)
 
 array-read-place : tie.Need-array-read-place Inv-loop μ-loop
-array-read-place c = search needs
+array-read-place c = omega (arith, c .loop-test .taken, c .before .before .before .before .before .pre .few)
 
 place-requires : tie.Need-place-requires Inv-loop μ-loop
 place-requires c κs = search needs
 
 mul-first : tie.Need-mul-first Inv-loop μ-loop
-mul-first c = search needs
+mul-first c = record { fits = omega (arith, c .place .ensures) }
 
 index-1-first : tie.Need-index-1-first Inv-loop μ-loop
 index-1-first c = omega (arith, c .place .ensures, c .before .before .before .before .before .before .pre .each (c .before .before .loop .m) (c .before .loop-test .taken) .inside)
@@ -42,7 +42,7 @@ cap-of-requires : tie.Need-cap-of-requires Inv-loop μ-loop
 cap-of-requires c κs = search needs
 
 mul-g : tie.Need-mul-g Inv-loop μ-loop
-mul-g c = search needs
+mul-g c = record { fits = omega (arith, c .before .before .place .ensures) }
 
 element-copy-out-g : tie.Need-element-copy-out-g Inv-loop μ-loop
 element-copy-out-g c = omega (arith, c .before .before .place .ensures, c .before .before .before .before .before .before .before .before .pre .each (c .before .before .before .before .loop .m) (c .before .before .before .loop-test .taken) .inside)
@@ -54,19 +54,19 @@ cast-seen : tie.Need-cast-seen Inv-loop μ-loop
 cast-seen c = let q = c .before .before .before .before .before .before .before .before .before .pre .each (c .before .before .before .before .before .loop .m) (c .before .before .before .before .loop-test .taken) in record { fits = rw (c .before .before .before .place .ensures .0) (omega (arith, q .seen)) }
 
 mul-sum-loads : tie.Need-mul-sum-loads Inv-loop μ-loop
-mul-sum-loads c = search needs
+mul-sum-loads c = record { fits = omega (arith, c .before .before .before .place .ensures) }
 
 index-1-sum-loads : tie.Need-index-1-sum-loads Inv-loop μ-loop
 index-1-sum-loads c = omega (arith, c .before .before .before .place .ensures, c .before .before .before .before .before .before .before .before .before .pre .each (c .before .before .before .before .before .loop .m) (c .before .before .before .before .loop-test .taken) .inside)
 
 mul-sum-loads-2 : tie.Need-mul-sum-loads-2 Inv-loop μ-loop
-mul-sum-loads-2 c = search needs
+mul-sum-loads-2 c = record { fits = omega (arith, c .before .before .before .before .before .place .ensures) }
 
 index-1-sum-loads-2 : tie.Need-index-1-sum-loads-2 Inv-loop μ-loop
 index-1-sum-loads-2 c = omega (arith, c .before .before .before .before .before .place .ensures, c .before .before .before .before .before .before .before .before .before .before .before .pre .each (c .before .before .before .before .before .before .before .loop .m) (c .before .before .before .before .before .before .loop-test .taken) .inside)
 
 mul-sum-loads-3 : tie.Need-mul-sum-loads-3 Inv-loop μ-loop
-mul-sum-loads-3 c = search needs
+mul-sum-loads-3 c = record { fits = omega (arith, c .before .before .before .before .before .before .place .ensures) }
 
 index-1-sum-loads-3 : tie.Need-index-1-sum-loads-3 Inv-loop μ-loop
 index-1-sum-loads-3 c = omega (arith, c .before .before .before .before .before .before .place .ensures, c .before .before .before .before .before .before .before .before .before .before .before .before .pre .each (c .before .before .before .before .before .before .before .before .loop .m) (c .before .before .before .before .before .before .before .loop-test .taken) .inside)
@@ -93,22 +93,22 @@ term-of-requires c κs = let q = c .before .before .before .before .before .befo
     rw (c .before .before .before .before .before .before .before .before .place .ensures .0) (q .bound, q .end, omega (arith, q .up, l .0), omega (arith, q .down, l .1))
 
 mul-ends : tie.Need-mul-ends Inv-loop μ-loop
-mul-ends c = search needs
+mul-ends c = record { fits = omega (arith, c .before .before .before .before .before .before .before .before .before .before .loop-test .taken, c .before .before .before .before .before .before .before .before .before .before .before .before .before .before .before .pre .few) }
 
 array-write-ends : tie.Need-array-write-ends Inv-loop μ-loop
-array-write-ends c = search needs
+array-write-ends c = omega (arith, c .before .before .before .before .before .before .before .before .before .before .loop-test .taken, c .before .before .before .before .before .before .before .before .before .before .before .before .before .before .before .pre .few)
 
 mul-lasts : tie.Need-mul-lasts Inv-loop μ-loop
-mul-lasts c = search needs
+mul-lasts c = record { fits = omega (arith, c .before .before .before .before .before .before .before .before .before .before .loop-test .taken, c .before .before .before .before .before .before .before .before .before .before .before .before .before .before .before .pre .few) }
 
 array-write-lasts : tie.Need-array-write-lasts Inv-loop μ-loop
-array-write-lasts c = search needs
+array-write-lasts c = omega (arith, c .before .before .before .before .before .before .before .before .before .before .loop-test .taken, c .before .before .before .before .before .before .before .before .before .before .before .before .before .before .before .pre .few)
 
 mul-weights : tie.Need-mul-weights Inv-loop μ-loop
-mul-weights c = search needs
+mul-weights c = record { fits = omega (arith, c .before .before .before .before .before .before .before .before .before .before .loop-test .taken, c .before .before .before .before .before .before .before .before .before .before .before .before .before .before .before .pre .few) }
 
 array-write-weights : tie.Need-array-write-weights Inv-loop μ-loop
-array-write-weights c = search needs
+array-write-weights c = omega (arith, c .before .before .before .before .before .before .before .before .before .before .loop-test .taken, c .before .before .before .before .before .before .before .before .before .before .before .before .before .before .before .pre .few)
 
 add-m : tie.Need-add-m Inv-loop μ-loop
 add-m c = search needs
