@@ -9,10 +9,10 @@
 /* The fastest form (plain.c). */
 struct lingfallow_returned plain_analyse(const uint8_t *plan, size_t plan_length, uint8_t *reply, size_t reply_length);
 
-/* The product's own steps, but for the routes, which are not listed (steps.c). */
+/* Flow after flow in plan order; routes are not listed (steps.c). */
 struct lingfallow_returned steps_analyse(const uint8_t *plan, size_t plan_length, uint8_t *reply, size_t reply_length);
 
-/* The product's own steps, with routes listed (steps.c with -DSTEPS_LISTED). */
+/* The same with routes listed (steps.c with -DSTEPS_LISTED). */
 struct lingfallow_returned steps_analyse_listed(const uint8_t *plan, size_t plan_length, uint8_t *reply,
                                                 size_t reply_length);
 

@@ -1,5 +1,5 @@
-/* Document 01 in plain C11, by the product's own steps: flows in plan order, each search looks at flow after flow, the
- * pair table is an array of arrays. With -DSTEPS_LISTED routes are listed and compared link by link; without it shared
+/* Document 01 in plain C11, flow after flow: every search and every sum goes over all flows in plan order, the pair
+ * table is an array of arrays. The product did so too before it listed direct flows. With -DSTEPS_LISTED routes are listed and compared link by link; without it shared
  * links are worked out from rows and columns.
  */
 #include "common.h"
