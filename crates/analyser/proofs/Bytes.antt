@@ -6,16 +6,16 @@ use native.Mathlib.Decide.{decLt}
 use native.Mathlib.Omega.{arith}
 use lib.ListN.{length, drop, getD}
 use lib.Seq.{getD-drop, ext-getD}
-use Rattle.framing.specs.Numbers.{oneAt, twoAt, fourAt}
+use Rattle.framing.specs.Header.{Headed}
+use Rattle.framing.specs.Numbers.{oneAt, twoAt, fourAt, Bytes}
 use Rattle.framing.specs.BigEndian.{twoBytes, fourBytes}
 use Rattle.framing.specs.Each.{each}
 use Rattle.plan.specs.declared.Flow.{Flow}
-use Rattle.plan.specs.Layout.{Headed}
 use Rattle.model.specs.declared.Verdict.{Verdict}
 use Rattle.model.specs.declared.Answer.{Answer}
 use Rattle.model.specs.Verdicts.{verdictNumber, namedFlow, boundIn, roundsIn}
 use Rattle.reply.specs.Reply.{recordOf, replyBytes}
-use Rattle.analyser.specs.Records.{Tells, Holds, Bytes}
+use Rattle.analyser.specs.Records.{Tells, Holds}
 use Rattle.analyser.proofs.Records.{tells-only}
 
 module _ {s t : List ℕ} (bs : Bytes s) (bt : Bytes t) where

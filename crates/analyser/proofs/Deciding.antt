@@ -5,6 +5,7 @@ use mathlib.Core.List.{List, [], _∷_, _++_}
 use native.Mathlib.Omega.{arith}
 use lib.ListN.{length, drop, getD, length-append, length-drop, length-map}
 use lib.Seq.{drop-at}
+use Rattle.framing.specs.Returned.{refusedWith, acceptedWith}
 use Rattle.plan.specs.declared.Platform.{Platform}
 use Rattle.plan.specs.declared.Flow.{Flow}
 use Rattle.plan.specs.Legal.{LegalFlow, Legal, flow}
@@ -20,7 +21,6 @@ use Rattle.model.proofs.FlowLines.{answer-at, rounds-line}
 use Rattle.engine.proofs.Accepted.{plan-flows}
 use Rattle.reply.specs.Reply.{replyBytes}
 use Rattle.reply.proofs.Theorems.{reply-length, Fits}
-use Rattle.analyser.specs.Analysed.{refusedWith, acceptedWith}
 use Rattle.analyser.specs.Records.{answerLines, Tells, Holds}
 use Rattle.analyser.proofs.Replying.{Replied, replied-refused, replied-short, replied-analysed}
 use Rattle.analyser.proofs.Records.{line, end-at}

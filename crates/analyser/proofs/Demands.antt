@@ -8,11 +8,15 @@ use mathlib.Core.List.{List, _++_}
 use native.Mathlib.Decide.{decLt}
 use native.Mathlib.Omega.{arith}
 use lib.ListN.{length, take, drop}
+use Rattle.framing.specs.Header.{Headed}
+use Rattle.framing.specs.Numbers.{Bytes}
+use Rattle.framing.specs.Returned.{refusedWith, acceptedWith}
+use Rattle.framing.specs.declared.returned.Returned.{Returned}
 use Rattle.plan.specs.declared.Platform.{Platform}
 use Rattle.plan.specs.declared.Flow.{Flow}
 use Rattle.plan.specs.declared.Reading.{Reading}
 use Rattle.plan.specs.Legal.{Legal, flow}
-use Rattle.plan.specs.Layout.{Headed, Laid}
+use Rattle.plan.specs.Layout.{Laid}
 use Rattle.plan.specs.Reading.{accepted, refused, readPlan}
 use Rattle.plan.proofs.Answered.{Lawful, accepts, refuses, answered}
 use Rattle.plan.proofs.Exact.{accepted-exactly}
@@ -28,9 +32,8 @@ use Rattle.model.specs.Rules.{Unbounded, AllBounded, IsWaiting, Right}
 use Rattle.model.proofs.Verdicts.{right, right-once}
 use Rattle.model.proofs.FlowLines.{answer-at, verdict-line, rounds-line}
 use Rattle.reply.specs.Reply.{replyBytes}
-use Rattle.analyser.specs.declared.Returned.{Returned}
-use Rattle.analyser.specs.Analysed.{refusedWith, acceptedWith, returned, left}
-use Rattle.analyser.specs.Records.{answerLines, idAt, verdictAt, namedAt, boundAt, roundsAt, Holds, Bytes}
+use Rattle.analyser.specs.Analysed.{returned, left}
+use Rattle.analyser.specs.Records.{answerLines, idAt, verdictAt, namedAt, boundAt, roundsAt, Holds}
 use Rattle.analyser.proofs.Replying.{Replied}
 use Rattle.analyser.proofs.Records.{tells-bounded, tells-late, tells-waits, tells-names, tells-only}
 use Rattle.analyser.proofs.Bytes.{same-buffer, reply-bytes}

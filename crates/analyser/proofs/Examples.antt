@@ -9,6 +9,8 @@ use lib.ListN.{take, getD, set, replicate}
 use Rattle.framing.specs.Numbers.{oneAt}
 use Rattle.framing.specs.First.{_when_else_}
 use Rattle.framing.specs.Each.{each}
+use Rattle.framing.specs.Returned.{refusedWith, acceptedWith, roomFor, putInto}
+use Rattle.framing.specs.declared.returned.Returned.{Returned}
 use Rattle.plan.specs.Table.{tagOf}
 use Rattle.plan.specs.Checks.{headerAt, taggedAt, frameAt, fieldsFrom, clashAt, tailAt, restAt, _then_, bodyAt, recordAt}
 use Rattle.plan.specs.Reading.{accepted, refused, after, records, readPlan}
@@ -23,8 +25,7 @@ use Rattle.model.specs.Interference.{directFor, indirectFor, comesBefore, those
 use Rattle.model.specs.Delays.{allowance, weight, term, terms}
 use Rattle.model.specs.Verdicts.{highest, judged, judge, verdictBelow, verdict, answers}
 use Rattle.reply.specs.Reply.{recordOf}
-use Rattle.analyser.specs.declared.Returned.{Returned}
-use Rattle.analyser.specs.Analysed.{refusedWith, acceptedWith, returnedBy, leftBy, returned, left}
+use Rattle.analyser.specs.Analysed.{returnedBy, leftBy, returned, left}
 use Rattle.analyser.specs.Records.{idAt, verdictAt, boundAt, roundsAt}
 use Rattle.analyser.proofs.Demands.{Offered, promised-exactly}
 
@@ -67,7 +68,7 @@ table =
     ∷ []
 
 replies : (map (λ r. returned (r .bytes) (r .room)) table ≡ map (λ r. r .result) table) × (map (λ r. left (r .bytes) (buffer (r .room))) table ≡ map (λ r. r .holds) table)
-unfolding tagOf headerAt taggedAt frameAt fieldsFrom clashAt tailAt restAt _then_ bodyAt recordAt accepted refused after records readPlan _when_else_ hops along xy on domain first-from up sumOver comesToFrom comesTo methodUsed latency directFor indirectFor comesBefore those allowance weight term terms highest judged judge verdictBelow verdict answers recordOf each returnedBy leftBy
+unfolding tagOf headerAt taggedAt frameAt fieldsFrom clashAt tailAt restAt _then_ bodyAt recordAt accepted refused after records readPlan _when_else_ hops along xy on domain first-from up sumOver comesToFrom comesTo methodUsed latency directFor indirectFor comesBefore those allowance weight term terms highest judged judge verdictBelow verdict answers recordOf each returnedBy leftBy roomFor putInto
 replies = (refl, refl)
 
 -- "These must be turned down": what P's offer comes to, with a buffer of 51 bytes, is none of what these programs give.

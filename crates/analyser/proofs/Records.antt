@@ -1,56 +1,33 @@
 -- What is written is read back: record k of a reply that stands in front of further bytes.
-use Prim.Native.Nat.{ℕ, zero, suc, _+_, _*_, _≤_, _<_}
-use mathlib.Core.Path.{_≡_, refl, ap, ap₂, _∙_}
+use Prim.Native.Nat.{ℕ, _*_, _≤_, _<_}
+use mathlib.Core.Path.{_≡_, refl, ap, _∙_}
 use mathlib.Core.Logic.{_↔_, _≢_}
-use mathlib.Core.List.{List, [], _∷_, _++_, append-assoc}
-use native.Mathlib.Nat.{zero-add, add-zero, add-assoc}
+use mathlib.Core.List.{List, _++_, append-assoc}
 use native.Mathlib.Omega.{arith}
-use lib.ListN.{length, getD, List·getD-append}
+use lib.ListN.{length, getD}
 use lib.Seq.{getD-append-add}
-use Rattle.framing.specs.Numbers.{oneAt, twoAt, fourAt}
 use Rattle.framing.specs.Each.{each}
-use Rattle.plan.specs.Layout.{Headed}
+use Rattle.framing.specs.Header.{Headed, endRecord}
+use Rattle.framing.proofs.Each.{each-at}
+use Rattle.framing.proofs.Stands.{Stands, two, four, header}
 use Rattle.model.specs.declared.Verdict.{Verdict}
 use Rattle.model.specs.declared.Verdict.the-variants.{Bounded, Late, Waits}
 use Rattle.model.specs.declared.Answer.{Answer}
 use Rattle.model.specs.Verdicts.{verdictNumber, namedFlow, boundIn}
-use Rattle.reply.specs.Reply.{recordOf, endRecord, replyBytes}
+use Rattle.reply.specs.Reply.{recordOf, replyBytes}
 use Rattle.reply.proofs.Writing.{length-record, length-records}
 use Rattle.reply.proofs.Theorems.{Fits, read-back}
 use Rattle.analyser.specs.Records.{Tells}
-
--- From b on s holds the first 16 bytes of t, and so its numbers.
-record Stands (s : List ℕ) (b : ℕ) (t : List ℕ) : Type 0 where
-  one : (d : ℕ) → d < 16 → oneAt s (b + d) ≡ oneAt t d
-
-module _ {s : List ℕ} {b : ℕ} {t : List ℕ} (w : Stands s b t) where
-  two : (d : ℕ) → d < 15 → twoAt s (b + d) ≡ twoAt t d
-  two d h = rw add-assoc (ap₂ (λ x y. 256 * x + y) (w .one d (omega arith)) (w .one (d + 1) (omega arith)))
-
-  four : (d : ℕ) → d < 13 → fourAt s (b + d) ≡ fourAt t d
-  four d h = rw (add-assoc b d 2) (ap₂ (λ x y. 65536 * x + y) (two d (omega arith)) (two (d + 2) (omega arith)))
-
-  header : {tag size : ℕ} → oneAt t 0 ≡ tag → twoAt t 1 ≡ size → Headed s b tag size
-  header e f = record { tag-is = rw add-zero at (w .one 0 (omega arith) ∙ e); size-is = two 1 (omega arith) ∙ f }
-
--- Behind the records in front of it, record k stands.
-record-at : (list : List Answer) (rest : List ℕ) (blank : Answer) (k : ℕ) → k < length list → (d : ℕ) → d < 16 → oneAt (each recordOf list ++ rest) (16 * k + d) ≡ oneAt (recordOf (getD list k blank)) d
-unfolding each
-record-at [] rest blank k l d h = absurd (omega arith)
-record-at (a ∷ list) rest blank zero l d h = rw (append-assoc, zero-add d) (List·getD-append (recordOf a) (each recordOf list ++ rest) 0 d (omega (arith, length-record a)))
-record-at (a ∷ list) rest blank (suc k) l d h =
-    let q : 16 * suc k + d ≡ length (recordOf a) + (16 * k + d) = omega (arith, length-record a) in
-    rw (append-assoc, q) (getD-append-add (recordOf a) (each recordOf list ++ rest) (16 * k + d) 0 ∙ record-at list rest blank k (omega arith) d h)
 
 module _ (list : List Answer) (rest : List ℕ) where
   pub line : (blank : Answer) (k : ℕ) → k < length list → Fits (getD list k blank) → Tells (replyBytes list ++ rest) k (getD list k blank)
   line blank k l f =
       let a = getD list k blank in
       let back = read-back a f in
-      let w : Stands (each recordOf list ++ (endRecord ++ rest)) (16 * k) (recordOf a) = record { one = record-at list (endRecord ++ rest) blank k l } in
+      let w : Stands (each recordOf list ++ (endRecord ++ rest)) (16 * k) (recordOf a) 16 = record { one = each-at recordOf 16 length-record list (endRecord ++ rest) blank k l } in
       rw append-assoc
       (record {
-        headed = header w (back .tag) (back .length);
+        headed = header w (omega arith) (back .tag) (back .length);
         id = two w 3 (omega arith) ∙ back .id;
         verdict = w .one 5 (omega arith) ∙ back .verdict;
         named = two w 6 (omega arith) ∙ back .named;
@@ -60,8 +37,8 @@ module _ (list : List Answer) (rest : List ℕ) where
 
   pub end-at : Headed (replyBytes list ++ rest) (16 * length list) 0x7F 0
   end-at =
-      let w : Stands (each recordOf list ++ (endRecord ++ rest)) (16 * length list) (endRecord ++ rest) = record { one = λ d h. rw (← length-records list) (getD-append-add (each recordOf list) (endRecord ++ rest) d 0) } in
-      rw append-assoc (header w refl refl)
+      let w : Stands (each recordOf list ++ (endRecord ++ rest)) (16 * length list) (endRecord ++ rest) 3 = record { one = λ d h. rw (← length-records list) (getD-append-add (each recordOf list) (endRecord ++ rest) d 0) } in
+      rw append-assoc (header w (omega arith) refl refl)
 
 -- What the numbers of a verdict tell of it.
 pub tells-bounded : (v : Verdict) (r : ℕ) → ((verdictNumber v ≡ 0) × (boundIn v ≡ r)) ↔ ((n : ℕ) × (v ≡ Bounded r n))

@@ -2,9 +2,10 @@
 use Prim.Native.Nat.{ℕ, _≤_, _<_}
 use mathlib.Core.Path.{_≡_, refl, ap, _∙_}
 use mathlib.Core.List.{List, _++_}
-use borrow.Author.Tests.{lt-ltb, le-ltb}
 use lib.ListN.{length, take, drop}
-use Rattle.framing.specs.First.{_when_else_}
+use Rattle.framing.specs.Returned.{refusedWith, acceptedWith}
+use Rattle.framing.specs.declared.returned.Returned.{Returned}
+use Rattle.framing.proofs.Rooms.{too-short, room-enough}
 use Rattle.plan.specs.declared.Outcome.the-variants.{Accepted, Refused}
 use Rattle.plan.specs.declared.Reading.{Reading}
 use Rattle.plan.specs.Reading.{readPlan}
@@ -12,8 +13,7 @@ use Rattle.model.specs.declared.Answer.{Answer}
 use Rattle.engine.specs.Answers.{answerArray}
 use Rattle.engine.proofs.Accepted.{reading-scene, first-answers}
 use Rattle.reply.specs.Reply.{replyBytes}
-use Rattle.analyser.specs.declared.Returned.{Returned}
-use Rattle.analyser.specs.Analysed.{needs, replyTo, refusedWith, acceptedWith, returnedBy, leftBy, returned, left}
+use Rattle.analyser.specs.Analysed.{needs, replyTo, returnedBy, leftBy, returned, left}
 
 -- What the contract says of the result and of the bytes left in the buffer.
 abbrev pub Replied : List ℕ → List ℕ → Returned → List ℕ → Type 0
@@ -26,12 +26,12 @@ module _ (bytes held : List ℕ) {r : Reading} (e : r ≡ readPlan bytes) where
 
   module _ (o : r .outcome ≡ Accepted) where
     pub replied-short : length held < needs (r .plan) → Replied bytes held (refusedWith 11 0) held
-    unfolding returnedBy leftBy _when_else_
-    replied-short h = rw (← e, o, lt-ltb (length held) (needs (r .plan)) h) (refl, refl)
+    unfolding returnedBy leftBy
+    replied-short h = rw (← e, o) (too-short (needs (r .plan)) (replyTo (r .plan)) held h)
 
     pub replied-analysed : needs (r .plan) ≤ length held → Replied bytes held (acceptedWith (needs (r .plan))) (replyTo (r .plan) ++ drop (needs (r .plan)) held)
-    unfolding returnedBy leftBy _when_else_
-    replied-analysed h = rw (← e, o, le-ltb (length held) (needs (r .plan)) h) (refl, refl)
+    unfolding returnedBy leftBy
+    replied-analysed h = rw (← e, o) (room-enough (needs (r .plan)) (replyTo (r .plan)) held h)
 
     pub replied-written :
         needs (r .plan) ≤ length held → {list : List Answer} {is : List ℕ} →

@@ -3,10 +3,10 @@ use Prim.Native.Nat.{ℕ, _+_, _*_, _<_}
 use mathlib.Core.Path.{_≡_}
 use mathlib.Core.List.{List, map}
 use lib.ListN.{length, drop}
+use Rattle.framing.specs.Header.{Headed}
 use Rattle.framing.specs.Numbers.{oneAt, twoAt, fourAt}
 use Rattle.plan.specs.declared.Flow.{Flow}
 use Rattle.plan.specs.Legal.{flow}
-use Rattle.plan.specs.Layout.{Headed}
 use Rattle.model.specs.declared.Verdict.{Verdict}
 use Rattle.model.specs.declared.Answer.{Answer}
 use Rattle.model.specs.Verdicts.{verdictNumber, namedFlow, boundIn, roundsIn}
@@ -57,7 +57,3 @@ pub record Holds (fs : List Flow) (answer : Flow → Verdict) (held is : List �
   -- "A longer buffer keeps its further bytes."
   pub further : drop (16 * length fs + 3) is ≡ drop (16 * length fs + 3) held
   pub long : length is ≡ length held
-
--- A buffer's bytes: each is below 256.
-pub record Bytes (is : List ℕ) : Type 0 where
-  pub each : (at : ℕ) → oneAt is at < 256

@@ -3,16 +3,10 @@ ghost use mathlib.Core.Path.{_≡_};
 ghost use lib.ListN.{length};
 ghost use Rattle.analyser.specs.Analysed.{returned, left};
 use engine::analyse_plan;
+use framing::returned::Returned;
 use plan::Outcome;
 use plan::read;
 use reply::put_reply;
-
-// What is returned: a refusal's number and place, or 0 and the reply's length.
-#[repr(C)]
-pub struct Returned {
-    pub number: u8,
-    pub value: usize,
-}
 
 // Analyses the plan that the bytes hold, and writes the reply. A refusal leaves the reply's bytes as they were.
 pub fn analyse(bytes: &[u8], reply: &mut [u8]) -> Returned

@@ -2,8 +2,9 @@
 use Prim.Native.Nat.{ℕ, _+_, _≤_}
 use native.Mathlib.Omega.{arith}
 use mathlib.Core.Path.{_≡_, sym, ap, _∙_}
-use mathlib.Core.List.{List, _++_, append-assoc}
-use lib.ListN.{length, take, drop, length-append}
+use mathlib.Core.List.{List, _++_, append-assoc, append-nil}
+use native.Mathlib.Nat.{zero-add}
+use lib.ListN.{length, take, drop, length-append, drop-of-length-le}
 use lib.Seq.{take-at, drop-drop, length-take-le, drop-append-add}
 use Rattle.framing.specs.Put.{put}
 
@@ -18,3 +19,10 @@ put-put old at s t h =
     ap (λ x. (x ++ t) ++ drop ((at + length s) + length t) (front ++ rest)) (take-at front rest (at + length s) l)
     ∙ ap (λ x. (front ++ t) ++ x) r
     ∙ ap (λ x. x ++ drop (at + length (s ++ t)) old) (append-assoc (take at old) s t)
+
+-- Bytes written over all that a slice held.
+pub put-whole : (old new : List ℕ) → length new ≡ length old → put old 0 new ≡ new
+put-whole old new e =
+    ap (λ (k : ℕ). new ++ drop k old) (zero-add (length new))
+    ∙ ap (λ (x : List ℕ). new ++ x) (drop-of-length-le old {i = length new} (omega (arith, e)))
+    ∙ append-nil new

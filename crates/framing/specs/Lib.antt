@@ -6,3 +6,4 @@ pub mod Put
 pub mod Each
 pub mod Reader
 pub mod First
+pub mod Returned

@@ -1,6 +1,6 @@
 -- Document 01, "The plan's bytes": "Numbers are unsigned, most significant byte first."
 -- `s` is a list of bytes and `at` a place in it, counted from 0.
-use Prim.Native.Nat.{ℕ, _+_, _*_}
+use Prim.Native.Nat.{ℕ, _+_, _*_, _<_}
 use mathlib.Core.List.{List}
 use lib.ListN.{getD}
 use Rattle.framing.specs.declared.numbers.Width.{Width}
@@ -27,3 +27,7 @@ abbrev pub numberAt : List ℕ → Width → ℕ → ℕ
 numberAt s One at = oneAt s at
 numberAt s Two at = twoAt s at
 numberAt s Four at = fourAt s at
+
+-- Bytes: each is below 256.
+pub record Bytes (s : List ℕ) : Type 0 where
+  pub each : (at : ℕ) → oneAt s at < 256

@@ -2,7 +2,7 @@
 ghost use mathlib.Core.Path.{_≡_};
 ghost use Prim.Native.Nat.{_+_, _≤_};
 ghost use lib.ListN.{length};
-ghost use Rattle.framing.specs.Header.{tagAt, lengthAt, headerCut, bodyCut};
+ghost use Rattle.framing.specs.Header.{tagAt, lengthAt, headerCut, bodyCut, endRecord};
 use crate::numbers::two_at;
 
 // Whether under 3 bytes remain; of a place behind the end none do.
@@ -35,4 +35,14 @@ pub fn body_cut(s: &[u8], at: usize) -> bool
 {
     let length = length_at(s, at) as usize;
     s.len() - (at + 3) < length
+}
+
+// The end record of a plan, and of a reply.
+pub fn put_end(out: &mut [u8])
+    requires { ⌜ length (now out) ≡ 3 ⌝ }
+    ensures { λ _. ⌜ now (out .exit) ≡ endRecord ⌝ }
+{
+    out[0] = 0x7F;
+    out[1] = 0;
+    out[2] = 0;
 }

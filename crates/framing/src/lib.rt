@@ -4,3 +4,4 @@ pub mod copy;
 pub mod header;
 pub mod numbers;
 pub mod reader;
+pub mod returned;

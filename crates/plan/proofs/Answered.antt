@@ -5,13 +5,13 @@ use mathlib.Core.Path.{_≡_, refl, sym, ap, subst}
 use mathlib.Core.List.{List, [], _∷_, _++_}
 use lib.ListN.{length}
 use borrow.Author.Tests.{eqb-false, ltb-false}
-use Rattle.framing.specs.Header.{tagAt}
-use Rattle.plan.specs.Table.{bodyLength, fieldsOf}
+use Rattle.framing.specs.Header.{tagAt, Headed}
+use Rattle.plan.specs.Table.{tagByte, bodyLength, fieldsOf}
 use Rattle.plan.specs.Values.{platformAt, flowAt, limitsAt, blankPlatform}
 use Rattle.plan.specs.Checks.{clashAt, tailAt, restAt, recordAt}
 use Rattle.plan.specs.Reading.{accepted, refused, records, readPlan}
 use Rattle.plan.specs.Legal.{LegalPlatform, Legal, flow}
-use Rattle.plan.specs.Layout.{Headed, place, Laid}
+use Rattle.plan.specs.Layout.{place, Laid}
 use Rattle.plan.specs.declared.Platform.{Platform}
 use Rattle.plan.specs.declared.Flow.{Flow}
 use Rattle.plan.specs.declared.Reading.{Reading}
@@ -19,7 +19,7 @@ use Rattle.plan.specs.declared.checks.Checked.{Checked}
 use Rattle.plan.specs.declared.checks.Checked.the-variants.{Fault, Passed}
 use Rattle.plan.specs.declared.table.Kind.{Kind}
 use Rattle.plan.specs.declared.table.Kind.the-variants.{PlatformRecord, FlowRecord, EndRecord}
-use Rattle.plan.proofs.Tags.{tagByte, tag-byte}
+use Rattle.plan.proofs.Tags.{tag-byte}
 use Rattle.plan.proofs.Order.{passed, Framed, flow-room, platform-first, others-later, Fine, fine, fault-ends, platform-leads, flow-leads, end-accepts}
 use Rattle.plan.proofs.Fields.{passed-allowed, platform-legal, flow-legal}
 use Rattle.plan.proofs.Growth.{longer, each-more, legal-more}

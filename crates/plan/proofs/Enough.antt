@@ -1,170 +1,23 @@
 -- "It reads at most 2,048 bytes of standard input, which always decides the reply": 1,504 bytes decide.
-use Prim.Native.Nat.{ℕ, zero, suc, _+_, _-_, _*_, _≤_, _<_}
+use Prim.Native.Nat.{ℕ, _≤_, _<_}
 use native.Mathlib.Omega.{arith}
 use native.Mathlib.Decide.{decLt}
-use mathlib.Core.Path.{_≡_, refl, sym, ap, ap₂, _∙_}
-use mathlib.Core.Bool.{Bool, true, false}
-use mathlib.Core.List.{List, [], _∷_, _++_}
+use mathlib.Core.Path.{_≡_, ap}
+use mathlib.Core.List.{List}
 use lib.ListN.{length, take}
 use lib.Seq.{take-all, getD-take, length-take-le}
-use lib.Dec.{eqb}
-use borrow.Author.Tests.{eqb-true, lt-ltb, le-ltb}
-use Rattle.framing.specs.First.{_when_else_}
-use Rattle.framing.specs.Numbers.{oneAt, twoAt, bytesOf, numberAt}
-use Rattle.framing.specs.Header.{tagAt, lengthAt, bodyCut}
-use Rattle.framing.specs.declared.numbers.Width.{Width}
-use Rattle.framing.specs.declared.numbers.Width.the-variants.{One, Two, Four}
-use Rattle.plan.specs.Table.{tagOf, bodyLength, fieldsOf, width}
-use Rattle.plan.specs.Values.{platformAt, flowAt, limitsAt, blankPlatform}
-use Rattle.plan.specs.Checks.{wrongLength, headerAt, taggedAt, frameAt, fieldsFrom, clashAt, tailAt, restAt, _then_, bodyAt, recordAt}
-use Rattle.plan.specs.Reading.{records, readPlan}
-use Rattle.plan.specs.Layout.{place}
-use Rattle.plan.specs.declared.Platform.{Platform}
-use Rattle.plan.specs.declared.Flow.{Flow}
-use Rattle.plan.specs.declared.checks.Checked.{Checked}
-use Rattle.plan.specs.declared.checks.Checked.the-variants.{Fault, Passed}
-use Rattle.plan.specs.declared.table.Field.{Field}
-use Rattle.plan.specs.declared.table.Kind.{Kind}
-use Rattle.plan.specs.declared.table.Kind.the-variants.{PlatformRecord, FlowRecord, EndRecord}
-use Rattle.plan.specs.declared.table.Tag.{Tag}
-use Rattle.plan.specs.declared.table.Tag.the-variants.{Known, Unknown}
-use Rattle.plan.specs.declared.values.Limits.{Limits}
-use Rattle.plan.proofs.Order.{flow-room, platform-first, others-later, fine, fault-ends, platform-leads, flow-leads, end-accepts}
-use Rattle.plan.proofs.Scan.{sizeOf, filled}
-use Rattle.plan.proofs.Growth.{longer}
-use Rattle.plan.proofs.Fuel.{turns-enough}
+use Rattle.framing.specs.Numbers.{oneAt}
+use Rattle.plan.specs.Reading.{readPlan}
+use Rattle.plan.specs.declared.Reading.{Reading}
+use Rattle.plan.proofs.Alike.{Alike, same, arrived, alike}
 
-body-small : (kind : Kind) → bodyLength kind ≤ 20
-body-small PlatformRecord = omega arith
-body-small FlowRecord = omega arith
-body-small EndRecord = omega arith
-
--- two byte strings that agree on their first 1,504 bytes
-module _ (s u : List ℕ) (agree : (i : ℕ) → i < 1504 → oneAt s i ≡ oneAt u i) (ls : 1504 ≤ length s) (lu : 1504 ≤ length u) where
-  two : (i : ℕ) → i + 2 ≤ 1504 → twoAt s i ≡ twoAt u i
-  two i l = ap₂ (λ a b. 256 * a + b) (agree i (omega arith)) (agree (i + 1) (omega arith))
-
-  number : (w : Width) (i : ℕ) → i + bytesOf w ≤ 1504 → numberAt s w i ≡ numberAt u w i
-  number One i l = agree i (omega arith)
-  number Two i l = two i l
-  number Four i l = ap₂ (λ a b. 65536 * a + b) (two i (omega arith)) (two (i + 2) (omega arith))
-
-  module _ (at : ℕ) (h : at + 23 ≤ 1504) where
-    -- the body's check hangs on the length, which by then is the tag's
-    body : (kind : Kind) (next : Checked) → (Fault 3 (at + 1) when wrongLength s at kind else Fault 1 at when bodyCut s at else next) ≡ (Fault 3 (at + 1) when wrongLength u at kind else Fault 1 at when bodyCut u at else next)
-    unfolding _when_else_
-    body kind next = go (eqb (lengthAt u at) (bodyLength kind)) refl
-      where
-        go : (b : Bool) → eqb (lengthAt u at) (bodyLength kind) ≡ b → (Fault 3 (at + 1) when wrongLength s at kind else Fault 1 at when bodyCut s at else next) ≡ (Fault 3 (at + 1) when wrongLength u at kind else Fault 1 at when bodyCut u at else next)
-        go true e =
-            let d = eqb-true (lengthAt u at) (bodyLength kind) e in
-            let k = body-small kind in
-            rw (two (at + 1) (omega arith), e, le-ltb (length s - (at + 3)) (lengthAt u at) (omega arith), le-ltb (length u - (at + 3)) (lengthAt u at) (omega arith))
-        go false e = rw (two (at + 1) (omega arith), e)
-
-    tagged : (t : Tag) (count : ℕ) → taggedAt s at t count ≡ taggedAt u at t count
-    unfolding taggedAt headerAt
-    tagged Unknown count = refl
-    tagged (Known kind) count = rw (body kind)
-
-    frame : (count : ℕ) → frameAt s at count ≡ frameAt u at count
-    unfolding frameAt _when_else_
-    frame count = rw (le-ltb (length s - at) 3 (omega arith), le-ltb (length u - at) 3 (omega arith), agree at (omega arith)) (tagged (tagOf (tagAt u at)) count)
-
-    fields : (kind : Kind) (l : Limits) (offset : ℕ) (fs : List Field) → offset + sizeOf fs ≤ 23 → fieldsFrom s at kind l offset fs ≡ fieldsFrom u at kind l offset fs
-    unfolding fieldsFrom
-    fields kind l offset [] w = refl
-    fields kind l offset (f ∷ fs) w = rw (number (width f) (at + offset) (omega arith), fields kind l (offset + bytesOf (width f)) fs (omega arith))
-
-    flow : flowAt s at ≡ flowAt u at
-    flow i = record {
-      id = number Two (at + 3) (omega arith) i;
-      priority = number Two (at + 5) (omega arith) i;
-      source = number One (at + 7) (omega arith) i;
-      destination = number One (at + 8) (omega arith) i;
-      flits = number Two (at + 9) (omega arith) i;
-      period = number Four (at + 11) (omega arith) i;
-      deadline = number Four (at + 15) (omega arith) i;
-      jitter = number Four (at + 19) (omega arith) i;
-    }
-
-    platform : platformAt s at ≡ platformAt u at
-    platform i = record {
-      columns = agree (at + 3) (omega arith) i;
-      rows = agree (at + 4) (omega arith) i;
-      link = agree (at + 5) (omega arith) i;
-      routing = agree (at + 6) (omega arith) i;
-      buffer = agree (at + 7) (omega arith) i;
-      method = agree (at + 8) (omega arith) i;
-    }
-
-    limits : (kind : Kind) (p : Platform) → limitsAt s at kind p ≡ limitsAt u at kind p
-    limits PlatformRecord p = refl
-    limits FlowRecord p = ap (λ (f : Flow). record { nodes = p .columns * p .rows; period = f .period }) flow
-    limits EndRecord p = refl
-
-    rest : (kind : Kind) (ids priorities : List ℕ) → restAt s at kind ids priorities ≡ restAt u at kind ids priorities
-    unfolding restAt tailAt
-    rest PlatformRecord ids priorities = refl
-    rest FlowRecord ids priorities = ap (λ (f : Flow). clashAt at f ids priorities) flow
-    rest EndRecord ids priorities = rw (lt-ltb (at + 3) (length s) (omega arith), lt-ltb (at + 3) (length u) (omega arith))
-
-    behind : (c : Checked) (p : Platform) (fs : List Flow) → bodyAt s at c p fs ≡ bodyAt u at c p fs
-    unfolding bodyAt
-    behind (Fault number place) p fs = refl
-    behind (Passed kind) p fs =
-        ap₂ _then_
-        (ap (λ (l : Limits). fieldsFrom s at kind l 3 (fieldsOf kind)) (limits kind p) ∙ fields kind (limitsAt u at kind p) 3 (fieldsOf kind) (omega (arith, filled kind, body-small kind)))
-        (rest kind _ _)
-
-    same-record : (p : Platform) (fs : List Flow) → recordAt s at p fs ≡ recordAt u at p fs
-    unfolding recordAt
-    same-record p fs = ap (λ (c : Checked). bodyAt s at c p fs) (frame (length fs)) ∙ behind (frameAt u at (length fs)) p fs
-
-  -- where a reading stands: at the first record, or behind some flows
-  data Stands (fs : List Flow) (at : ℕ) : Type 0 where
-    start : at ≡ 0 → fs ≡ [] → Stands fs at
-    going : at ≡ place (length fs) → length fs ≤ 64 → Stands fs at
-
-  early : {fs : List Flow} {at : ℕ} → Stands fs at → at + 23 ≤ 1504
-  early (start z n) = omega arith
-  early (going z l) = omega arith
-
-  abbrev Same : ℕ → Type 0
-  Same turns = (p : Platform) (fs : List Flow) (at : ℕ) → Stands fs at → records turns s at p fs ≡ records turns u at p fs
-
-  module _ (turns : ℕ) (more : Same turns) (p : Platform) (fs : List Flow) (at : ℕ) where
-    by-record : Stands fs at → (c : Checked) → recordAt s at p fs ≡ c → recordAt u at p fs ≡ c → records (suc turns) s at p fs ≡ records (suc turns) u at p fs
-    by-record w (Fault number pl) e d = fault-ends s at p fs turns e ∙ sym (fault-ends u at p fs turns d)
-    by-record (start z n) (Passed PlatformRecord) e d =
-        let o : length fs ≡ 0 = ap length n in
-        platform-leads s at p fs turns e
-        ∙ more (platformAt s at) fs (at + 9) (going (omega arith) (omega arith))
-        ∙ ap (λ (q : Platform). records turns u (at + 9) q fs) (platform at (omega arith))
-        ∙ sym (platform-leads u at p fs turns d)
-    by-record (going z l) (Passed PlatformRecord) e d = let o = platform-first (fine s at p fs e .frame) in absurd (omega arith)
-    by-record (start z n) (Passed FlowRecord) e d = absurd (others-later FlowRecord refl (fine s at p fs e .frame) z)
-    by-record (going z l) (Passed FlowRecord) e d =
-        let r = flow-room (fine s at p fs e .frame) refl in
-        let o = longer fs (flowAt s at) in
-        flow-leads s at p fs turns e
-        ∙ more p (fs ++ flowAt s at ∷ []) (at + 23) (going (omega arith) (omega arith))
-        ∙ ap (λ (f : Flow). records turns u (at + 23) p (fs ++ f ∷ [])) (flow at (omega arith))
-        ∙ sym (flow-leads u at p fs turns d)
-    by-record w (Passed EndRecord) e d = end-accepts s at p fs turns e ∙ sym (end-accepts u at p fs turns d)
-
-  same : (turns : ℕ) → Same turns
-  unfolding records
-  same zero p fs at w = refl
-  same (suc turns) p fs at w = by-record turns (same turns) p fs at w (recordAt s at p fs) refl (sym (same-record at (early w) p fs))
-
-  enough : readPlan s ≡ readPlan u
-  enough =
-      let n : length u + suc (length s) ≡ length s + suc (length u) = omega arith in
-      sym (turns-enough s (length u))
-      ∙ same (length u + suc (length s)) blankPlatform [] 0 (start refl refl)
-      ∙ ap (λ (t : ℕ). records t u 0 blankPlatform []) n
-      ∙ turns-enough u (length s)
+-- no reading gets behind 65 flows
+enough : (s u : List ℕ) → ((i : ℕ) → i < 1504 → oneAt s i ≡ oneAt u i) → 1504 ≤ length s → 1504 ≤ length u → readPlan s ≡ readPlan u
+enough s u agree ls lu = go (alike s u 65 agree ls lu (omega arith))
+  where
+    go : {x y : Reading} → Alike s u 65 agree ls lu x y → x ≡ y
+    go (same e) = e
+    go (arrived turns p fs many few) = absurd (omega arith)
 
 pub decided : (s : List ℕ) → readPlan (take 2048 s) ≡ readPlan s
 decided s = go (decLt 2048 (length s))

@@ -1,5 +1,5 @@
 -- "No refusal is given otherwise": bytes are accepted exactly if they are laid out as the table says, with legal values.
-use Prim.Native.Nat.{ℕ, zero, suc, _+_, _-_, _*_, _≤_, _<_}
+use Prim.Native.Nat.{ℕ, zero, suc, _+_, _*_, _≤_, _<_}
 use native.Mathlib.Omega.{arith}
 use mathlib.Core.Path.{_≡_, refl, sym, ap, _∙_}
 use mathlib.Core.Bool.{false}
@@ -8,36 +8,27 @@ use mathlib.Core.Logic.{_↔_}
 use lib.ListN.{length, take}
 use lib.Seq.{take-at, take-all, take-suc, length-take-le, getD-take}
 use lib.Dec.{eqb}
-use borrow.Author.Tests.{eq-eqb, ne-eqb, le-ltb, lt-leb}
+use borrow.Author.Tests.{ne-eqb, lt-leb}
 use Rattle.framing.specs.First.{_when_else_}
-use Rattle.framing.specs.Header.{lengthAt}
-use Rattle.plan.specs.Table.{bodyLength, fieldsOf}
+use Rattle.plan.specs.Table.{fieldsOf}
 use Rattle.plan.specs.Values.{flowAt, limitsAt, blankPlatform, blankFlow}
-use Rattle.plan.specs.Checks.{misplaced, noRoom, headerAt, taggedAt, frameAt, idsOf, prioritiesOf, taken, clashAt, tailAt, restAt, recordAt}
+use Rattle.plan.specs.Checks.{misplaced, idsOf, prioritiesOf, taken, clashAt, restAt, recordAt}
 use Rattle.plan.specs.Reading.{accepted, refused, records, readPlan}
 use Rattle.plan.specs.Padded.{padded}
 use Rattle.plan.specs.Legal.{Distinct, Legal, flow}
-use Rattle.plan.specs.Layout.{Headed, place, Laid}
+use Rattle.plan.specs.Layout.{place, Laid}
 use Rattle.plan.specs.declared.Platform.{Platform}
 use Rattle.plan.specs.declared.Flow.{Flow}
 use Rattle.plan.specs.declared.Reading.{Reading}
 use Rattle.plan.specs.declared.Outcome.the-variants.{Accepted, Refused}
 use Rattle.plan.specs.declared.checks.Checked.the-variants.{Passed}
-use Rattle.plan.specs.declared.table.Kind.{Kind}
-use Rattle.plan.specs.declared.table.Kind.the-variants.{PlatformRecord, FlowRecord, EndRecord}
-use Rattle.plan.proofs.Tags.{tagByte, tag-known}
+use Rattle.plan.specs.declared.table.Kind.the-variants.{PlatformRecord, FlowRecord}
+use Rattle.plan.proofs.Frames.{frame-passes, end-passes}
 use Rattle.plan.proofs.Order.{record-rest, platform-leads, flow-leads, end-accepts}
 use Rattle.plan.proofs.Fields.{allowed-passed, legal-platform, legal-flow}
 use Rattle.plan.proofs.Growth.{found-none}
 use Rattle.plan.proofs.Listed.{Numbered}
 use Rattle.plan.proofs.Answered.{Lawful, accepts, refuses, answered}
-
--- ---- a record in its place, with the table's tag and length and its body there, has a frame without fault
-module _ (s : List ℕ) (at : ℕ) (kind : Kind) (count : ℕ) where
-  frame-passes : Headed s at (tagByte kind) (bodyLength kind) → misplaced (eqb at 0) kind ≡ false → at + 3 + bodyLength kind ≤ length s → noRoom kind count ≡ false → frameAt s at count ≡ Passed kind
-  unfolding frameAt taggedAt headerAt _when_else_
-  frame-passes h m w r =
-      rw (le-ltb (length s - at) 3 (omega arith), h .tag-is, tag-known kind, m, eq-eqb (lengthAt s at) (bodyLength kind) (h .size-is), le-ltb (length s - (at + 3)) (lengthAt s at) (omega (arith, h .size-is)), r)
 
 module _ (s : List ℕ) (p : Platform) (fs : List Flow) (laid : Laid s p fs) (legal : Legal p fs) where
   platform-passes : recordAt s 0 blankPlatform [] ≡ Passed PlatformRecord
@@ -75,21 +66,13 @@ module _ (s : List ℕ) (p : Platform) (fs : List Flow) (laid : Laid s p fs) (le
         ∙ ap (λ (f : Flow). clashAt (place k) f (idsOf (take k fs)) (prioritiesOf (take k fs))) e
         ∙ clash-passes
 
-  end-passes : recordAt s (place (length fs)) p fs ≡ Passed EndRecord
-  unfolding restAt tailAt _when_else_
-  end-passes =
-      record-rest s (place (length fs)) p fs
-      (frame-passes s (place (length fs)) EndRecord (length fs) (laid .end) (rw (ne-eqb (place (length fs)) 0 (omega arith))) (omega (arith, laid .nothing-else)) refl)
-      (allowed-passed s (place (length fs)) EndRecord (limitsAt s (place (length fs)) EndRecord p) 3 [] tt)
-      ∙ rw (le-ltb (place (length fs) + 3) (length s) (omega (arith, laid .nothing-else)))
-
   -- the records from flow k on
   from : (r k turns : ℕ) → k + r ≡ length fs → r < turns → records turns s (place k) p (take k fs) ≡ accepted p fs
   from r k zero e h = absurd (omega arith)
   from zero k (suc turns) e h =
       let w : take k fs ≡ fs = take-all k fs (omega arith) in
       let z : k ≡ length fs = omega arith in
-      (λ i. records (suc turns) s (place (z i)) p (w i)) ∙ end-accepts s (place (length fs)) p fs turns end-passes
+      (λ i. records (suc turns) s (place (z i)) p (w i)) ∙ end-accepts s (place (length fs)) p fs turns (end-passes s (place (length fs)) (λ z. omega arith) p fs (laid .end) (laid .nothing-else))
   from (suc r) k (suc turns) e h =
       let l : k < length fs = omega arith in
       let g : take k fs ++ flowAt s (place k) ∷ [] ≡ take (suc k) fs = ap (λ (x : Flow). take k fs ++ x ∷ []) (laid .each k l .1) ∙ sym (take-suc fs k blankFlow l) in

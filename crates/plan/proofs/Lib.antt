@@ -4,15 +4,17 @@ mod Fits
 mod Rests
 pub mod Padding
 mod Columns
-mod Order
-mod Scan
+pub mod Order
+pub mod Scan
 mod Turns
 mod Recording
 mod Fields
 mod Growth
 mod Listed
 pub mod Answered
+pub mod Frames
 pub mod Exact
 pub mod Fuel
+pub mod Alike
 pub mod Enough
 mod Examples

@@ -10,16 +10,11 @@ use native.Mathlib.Omega.{arith}
 use native.Mathlib.Decide.{ℕ-discrete}
 use borrow.Author.Tests.{ne-eqb}
 use Rattle.framing.specs.First.{_when_else_}
-use Rattle.plan.specs.Table.{tagOf}
+use Rattle.plan.specs.Table.{tagOf, tagByte}
 use Rattle.plan.specs.declared.table.Kind.{Kind}
 use Rattle.plan.specs.declared.table.Kind.the-variants.{PlatformRecord, FlowRecord, EndRecord}
 use Rattle.plan.specs.declared.table.Tag.{Tag}
 use Rattle.plan.specs.declared.table.Tag.the-variants.{Known, Unknown}
-
-abbrev pub tagByte : Kind → ℕ
-tagByte PlatformRecord = 0x01
-tagByte FlowRecord = 0x02
-tagByte EndRecord = 0x7F
 
 pub tag-known : (kind : Kind) → tagOf (tagByte kind) ≡ Known kind
 unfolding tagOf _when_else_

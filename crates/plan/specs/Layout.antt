@@ -3,16 +3,11 @@ use Prim.Native.Nat.{ℕ, _+_, _*_, _<_}
 use mathlib.Core.Path.{_≡_}
 use mathlib.Core.List.{List}
 use lib.ListN.{length}
-use Rattle.framing.specs.Header.{tagAt, lengthAt}
+use Rattle.framing.specs.Header.{Headed}
 use Rattle.plan.specs.Values.{platformAt, flowAt}
 use Rattle.plan.specs.Legal.{flow}
 use Rattle.plan.specs.declared.Platform.{Platform}
 use Rattle.plan.specs.declared.Flow.{Flow}
-
--- "Every record is a one-byte tag, a two-byte body length and a body": the record at `at` has this tag and length.
-pub record Headed (s : List ℕ) (at tag size : ℕ) : Type 0 where
-  pub tag-is : tagAt s at ≡ tag
-  pub size-is : lengthAt s at ≡ size
 
 -- Flow k's record starts behind the platform record and k flow records.
 abbrev pub place : ℕ → ℕ

@@ -21,6 +21,12 @@ tagOf byte =
     Known EndRecord when eqb byte 0x7F else
     Unknown
 
+-- .. and the byte of each known one.
+abbrev pub tagByte : Kind → ℕ
+tagByte PlatformRecord = 0x01
+tagByte FlowRecord = 0x02
+tagByte EndRecord = 0x7F
+
 -- Column "Length".
 abbrev pub bodyLength : Kind → ℕ
 bodyLength PlatformRecord = 6

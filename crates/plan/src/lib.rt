@@ -25,6 +25,7 @@ mod checks;
 mod table;
 mod values;
 
+#[repr(C)]
 pub struct Platform {
     pub columns: u8,
     pub rows: u8,
@@ -34,6 +35,7 @@ pub struct Platform {
     pub method: u8,
 }
 
+#[repr(C)]
 pub struct Flow {
     pub id: u16,
     pub priority: u16,
@@ -49,6 +51,7 @@ pub struct Flow {
 pub type Flows = [Flow; 64];
 
 // The flows are the first `count`; blanks, whose priority no flow has, stand behind them.
+#[repr(C)]
 pub struct Plan {
     pub platform: Platform,
     pub flows: Flows,

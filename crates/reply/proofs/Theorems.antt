@@ -1,15 +1,17 @@
 -- What is written is read back, and how long a reply is.
 use Prim.Native.Nat.{_+_, _*_, _^_, _<_}
 use mathlib.Core.Path.{_≡_, refl, _∙_}
-use mathlib.Core.List.{List}
+use mathlib.Core.List.{List, []}
 use native.Mathlib.Omega.{arith}
 use lib.ListN.{length, length-append}
 use Rattle.framing.specs.Numbers.{oneAt, twoAt, fourAt}
 use Rattle.framing.specs.Each.{each}
-use Rattle.framing.proofs.BigEndian.{from-two, from-four}
+use Rattle.framing.specs.Header.{endRecord}
+use Rattle.framing.specs.declared.numbers.Width.the-variants.{Two, Four}
+use Rattle.framing.proofs.BigEndian.{number-back}
 use Rattle.model.specs.declared.Answer.{Answer}
 use Rattle.model.specs.Verdicts.{verdictNumber, namedFlow, boundIn, roundsIn}
-use Rattle.reply.specs.Reply.{recordOf, endRecord, replyBytes}
+use Rattle.reply.specs.Reply.{recordOf, replyBytes}
 use Rattle.reply.proofs.Writing.{length-records}
 
 -- "A plan of n flows needs 16n + 3 bytes"
@@ -38,9 +40,9 @@ unfolding recordOf
 read-back a f = record {
   tag = refl;
   length = refl;
-  id = from-two _ (f .id);
+  id = number-back Two _ (f .id) [];
   verdict = refl;
-  named = from-two _ (f .named);
-  bound = from-four _ (f .bound);
-  rounds = from-four _ (f .rounds);
+  named = number-back Two _ (f .named) [];
+  bound = number-back Four _ (f .bound) [];
+  rounds = number-back Four _ (f .rounds) [];
 }

@@ -1,8 +1,9 @@
 -- Document 01, "The reply".
 use Prim.Native.Nat.{ℕ}
-use mathlib.Core.List.{List, [], _∷_, _++_}
+use mathlib.Core.List.{List, _∷_, _++_}
 use Rattle.framing.specs.BigEndian.{twoBytes, fourBytes}
 use Rattle.framing.specs.Each.{each}
+use Rattle.framing.specs.Header.{endRecord}
 use Rattle.model.specs.declared.Answer.{Answer}
 use Rattle.model.specs.Verdicts.{verdictNumber, namedFlow, boundIn, roundsIn}
 
@@ -17,9 +18,6 @@ recordOf a =
     ∷ (twoBytes (namedFlow (a .verdict))
     ++ (fourBytes (boundIn (a .verdict))
     ++ fourBytes (roundsIn (a .verdict))))))
-
-abbrev pub endRecord : List ℕ
-endRecord = 0x7F ∷ 0 ∷ 0 ∷ []
 
 -- "For each flow, in plan order: .. Then 7F 0000."
 abbrev pub replyBytes : List Answer → List ℕ

@@ -3,20 +3,12 @@ ghost use mathlib.Core.Path.{_≡_};
 ghost use mathlib.Core.List.{_++_};
 ghost use Prim.Native.Nat.{_+_, _*_, _≤_};
 ghost use lib.ListN.{length, take, drop};
-ghost use Rattle.reply.specs.Reply.{endRecord, replyBytes};
+ghost use Rattle.reply.specs.Reply.{replyBytes};
 use crate::record::put_record;
 use engine::Answers;
+use framing::header::put_end;
 
 mod record;
-
-fn put_end(out: &mut [u8])
-    requires { ⌜ length (now out) ≡ 3 ⌝ }
-    ensures { λ _. ⌜ now (out .exit) ≡ endRecord ⌝ }
-{
-    out[0] = 0x7F;
-    out[1] = 0;
-    out[2] = 0;
-}
 
 // Each record is written at its own distance into the reply, into a part of it that is lent on; further bytes stay.
 pub fn put_reply(reply: &mut [u8], list: Answers, count: usize)

@@ -2,18 +2,18 @@
 use Prim.Native.Nat.{_-_}
 use native.Mathlib.Omega.{arith}
 use borrow.Author.Needs.{needs}
-use Rattle.reply.proofs.Writing.{Writing, writing-none, writing-more, writing-all}
+use Rattle.reply.proofs.Writing.{Replying, replying-none, replying-more, replying-all}
 use Rattle.reply.proofs.put_reply.Statement.{statement}
 use Rattle.reply.proofs.put_reply.Tie as tie
 
 abbrev Inv-loop : tie.InvT-loop
-Inv-loop reply₀ count list i₀ reply i = Writing reply₀ list count reply i
+Inv-loop reply₀ count list i₀ reply i = Replying reply₀ list count reply i
 
 abbrev μ-loop : tie.MeasureT-loop
 μ-loop reply₀ count list i₀ reply i = count - i
 
 loop-holds : tie.Need-loop-holds Inv-loop μ-loop
-loop-holds c = writing-none _ _ _ (search needs) (search needs)
+loop-holds c = replying-none _ _ _ (search needs)
 
 mul-at : tie.Need-mul-at Inv-loop μ-loop
 mul-at c = search needs
@@ -46,7 +46,7 @@ loop-less : tie.Need-loop-less Inv-loop μ-loop
 loop-less c = search needs
 
 loop-again : tie.Need-loop-again Inv-loop μ-loop
-loop-again c = writing-more (c .before .before .before .before .before .before .loop .inv) (search needs) _ (c .before .before .put-record .ensures) (search needs)
+loop-again c = replying-more (c .before .before .before .before .before .before .loop .inv) (search needs) _ (c .before .before .put-record .ensures) (search needs)
 
 mul-at-2 : tie.Need-mul-at-2 Inv-loop μ-loop
 mul-at-2 c = search needs
@@ -70,7 +70,7 @@ same-length : tie.Need-same-length Inv-loop μ-loop
 same-length c = search needs
 
 returns : tie.Need-returns Inv-loop μ-loop
-returns c = writing-all (c .before .before .before .before .before .loop .inv) (search needs) (c .before .before .put-end .ensures)
+returns c = replying-all (c .before .before .before .before .before .loop .inv) (search needs) (c .before .before .put-end .ensures)
 
 pub put-reply-spec : {M : Type 1} → statement M
 put-reply-spec =

@@ -4,7 +4,8 @@ use native.Mathlib.Omega.{arith}
 use borrow.Author.Needs.{needs}
 use Rattle.framing.specs.Put.{put}
 use Rattle.reply.specs.Reply.{recordOf}
-use Rattle.reply.proofs.Writing.{length-record, put-whole}
+use Rattle.framing.proofs.Puts.{put-whole}
+use Rattle.reply.proofs.Writing.{length-record}
 use Rattle.reply.proofs.record.put_record.Statement.{statement}
 use Rattle.reply.proofs.record.put_record.Tie as tie
 

@@ -1,12 +1,12 @@
--- `reply::put_end` meets its contract.
+-- `framing::header::put_end` meets its contract.
 use mathlib.Core.Path.{ap, _∙_}
 use mathlib.Core.List.{[], _∷_}
 use native.Mathlib.Omega.{arith}
 use lib.ListN.{drop-of-length-le}
 use lib.Seq.{sets-eq}
 use borrow.Author.Needs.{needs}
-use Rattle.reply.proofs.put_end.Statement.{statement}
-use Rattle.reply.proofs.put_end.Tie as tie
+use Rattle.framing.proofs.header.put_end.Statement.{statement}
+use Rattle.framing.proofs.header.put_end.Tie as tie
 
 slice-write-out : tie.Need-slice-write-out
 slice-write-out c = search needs
