@@ -1,0 +1,85 @@
+-- Plan P written from its numbers, and refusals with their exact places, computed.
+use Prim.Native.Nat.{ℕ}
+use mathlib.Core.Path.{_≡_, refl}
+use mathlib.Core.List.{List, [], _∷_}
+use lib.ListN.{set, replicate}
+use Rattle.framing.specs.Each.{each}
+use Rattle.framing.specs.First.{_when_else_}
+use Rattle.framing.specs.Returned.{refusedWith, acceptedWith, roomFor, putInto}
+use Rattle.framing.specs.declared.returned.Returned.{Returned}
+use Rattle.plan.specs.Table.{tagOf}
+use Rattle.plan.specs.Checks.{headerAt, taggedAt, frameAt, fieldsFrom, clashAt, tailAt, restAt, _then_, bodyAt, recordAt}
+use Rattle.plan.specs.Reading.{accepted, refused, after, records, readPlan}
+use Rattle.plan.specs.PlanP.{P}
+use Rattle.plan.specs.declared.Platform.{Platform}
+use Rattle.plan.specs.declared.Flow.{Flow}
+use Rattle.writer.specs.PlanBytes.{platformBytes, flowBytes, planBytes}
+use Rattle.writer.specs.Written.{returnedBy, leftBy, returned, left}
+
+-- P's platform, with other flits of a buffer or another method.
+platform : ℕ → ℕ → Platform
+platform buffer method = record { columns = 6; rows = 1; link = 1; routing = 0; buffer = buffer; method = method }
+
+-- P's flows, with other values here and there.
+first : ℕ → Flow
+first deadline = record { id = 2; priority = 1; source = 4; destination = 5; flits = 60; period = 200; deadline = deadline; jitter = 0 }
+
+second : ℕ → ℕ → Flow
+second id destination = record { id = id; priority = 2; source = 0; destination = destination; flits = 198; period = 4000; deadline = 4000; jitter = 0 }
+
+third : ℕ → Flow
+third priority = record { id = 5; priority = priority; source = 1; destination = 4; flits = 128; period = 6000; deadline = 6000; jitter = 0 }
+
+flows : List Flow
+flows = first 200 ∷ second 3 5 ∷ third 3 ∷ []
+
+-- P's bytes are what is written of its numbers, and method 0 is written as 0.
+P-written : planBytes (platform 10 3) flows ≡ P
+unfolding platformBytes flowBytes each platform first second third flows
+P-written = refl
+
+method-0-stays : planBytes (platform 10 0) flows ≡ set P 8 0
+unfolding platformBytes flowBytes each platform first second third flows
+method-0-stays = refl
+
+-- Each fault at the place of the bytes as they would have been written; of two the first record's, and within a record the first in order.
+answers : List Returned
+answers =
+    returned (platform 10 3) flows 81
+    ∷ returned (platform 10 3) flows 80  -- a byte too few
+    ∷ returned (platform 65 3) flows 80  -- a field comes before the buffer's length
+    ∷ returned (platform 10 4) flows 81
+    ∷ returned (platform 10 3) (first 201 ∷ second 3 5 ∷ []) 81  -- a deadline above its period
+    ∷ returned (platform 10 3) (first 0 ∷ second 3 5 ∷ []) 81
+    ∷ returned (platform 10 3) (first 200 ∷ second 3 6 ∷ []) 81  -- a destination outside the mesh
+    ∷ returned (platform 10 3) (first 200 ∷ second 2 0 ∷ []) 81  -- 9 before 7
+    ∷ returned (platform 10 3) (first 200 ∷ second 2 5 ∷ []) 81
+    ∷ returned (platform 10 3) (first 200 ∷ second 3 5 ∷ third 2 ∷ []) 81
+    ∷ returned (platform 10 3) [] 12
+    ∷ []
+
+answers-are :
+    answers
+    ≡ acceptedWith 81
+    ∷ refusedWith 11 0
+    ∷ refusedWith 5 7
+    ∷ refusedWith 5 8
+    ∷ refusedWith 5 24
+    ∷ refusedWith 5 24
+    ∷ refusedWith 5 40
+    ∷ refusedWith 9 40
+    ∷ refusedWith 7 35
+    ∷ refusedWith 8 60
+    ∷ acceptedWith 12
+    ∷ []
+unfolding tagOf headerAt taggedAt frameAt fieldsFrom clashAt tailAt restAt _then_ bodyAt recordAt accepted refused after records readPlan _when_else_ platformBytes flowBytes each returnedBy roomFor platform first second third flows answers
+answers-are = refl
+
+-- A longer buffer keeps its further bytes, and a refusal leaves all of them.
+lefts : left (platform 10 3) [] (replicate 14 0xA5) ≡ 0x01 ∷ 0 ∷ 6 ∷ 6 ∷ 1 ∷ 1 ∷ 0 ∷ 10 ∷ 3 ∷ 0x7F ∷ 0 ∷ 0 ∷ 0xA5 ∷ 0xA5 ∷ []
+unfolding tagOf headerAt taggedAt frameAt fieldsFrom clashAt tailAt restAt _then_ bodyAt recordAt accepted refused after records readPlan _when_else_ platformBytes flowBytes each leftBy putInto platform
+lefts = refl
+
+left-alone : left (platform 10 4) [] (replicate 14 0xA5) ≡ replicate 14 0xA5
+unfolding tagOf headerAt taggedAt frameAt fieldsFrom clashAt tailAt restAt _then_ bodyAt recordAt accepted refused after records readPlan _when_else_ platformBytes flowBytes each leftBy putInto platform
+left-alone = refl

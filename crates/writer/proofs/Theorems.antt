@@ -1,0 +1,107 @@
+-- What the depot relies on, of any platform, any flows and any buffer. `write` promises to return `returned p fs (length held)`
+-- and to leave `left p fs held` in the buffer that held `held`.
+use Prim.Native.Nat.{ℕ, _+_, _*_, _≤_, _<_}
+use mathlib.Core.Path.{_≡_, refl, sym, ap, _∙_}
+use mathlib.Core.Logic.{_≢_}
+use mathlib.Core.List.{List, _++_}
+use native.Mathlib.Decide.{decLt}
+use native.Mathlib.Omega.{arith}
+use lib.ListN.{length, take, drop}
+use lib.Seq.{take-at}
+use Rattle.framing.specs.Numbers.{Bytes}
+use Rattle.framing.specs.Returned.{refusedWith, acceptedWith}
+use Rattle.framing.specs.declared.returned.Returned.{Returned}
+use Rattle.framing.proofs.Rooms.{too-short, room-enough}
+use Rattle.plan.specs.Legal.{Legal}
+use Rattle.plan.specs.Reading.{accepted, refused, readPlan}
+use Rattle.plan.specs.declared.Platform.{Platform}
+use Rattle.plan.specs.declared.Flow.{Flow}
+use Rattle.plan.specs.declared.Outcome.{Outcome}
+use Rattle.plan.specs.declared.Outcome.the-variants.{Accepted, Refused}
+use Rattle.plan.specs.declared.Reading.{Reading}
+use Rattle.plan.proofs.Answered.{Lawful, accepts, refuses, answered}
+use Rattle.writer.specs.PlanBytes.{planBytes, FitsPlan}
+use Rattle.writer.specs.Written.{returnedBy, leftBy, returned, left}
+use Rattle.writer.proofs.Putting.{length-plan}
+use Rattle.writer.proofs.ReadBack.{given-back, written-exactly}
+use Rattle.writer.proofs.Again.{same-bytes}
+
+-- A refusal's number is not acceptance's 0.
+numbered : (s : List ℕ) {number place : ℕ} → readPlan s .outcome ≡ Refused number place → 1 ≤ number
+unfolding accepted refused
+numbered s {number} {place} = go (readPlan s) (answered s)
+  where
+    go : (r : Reading) → Lawful s r → r .outcome ≡ Refused number place → 1 ≤ number
+    go r (accepts q gs laid legal) e = let z : _≡_ {A = ℕ} 0 1 = cc in absurd (omega arith)
+    go r (refuses n at w h) e = let a : n ≡ number = cc in rw (← a) (w .0)
+
+module _ (p : Platform) (fs : List Flow) (held : List ℕ) where
+  abbrev bytes : List ℕ
+  bytes = planBytes p fs
+
+  -- What a writing comes to: a refusal by the reader, 11, or the plan in front of what the buffer held.
+  data Came : Returned → List ℕ → Type 0 where
+    sent-back : (number place : ℕ) → 1 ≤ number → Came (refusedWith number place) held
+    no-room : Came (refusedWith 11 0) held
+    whole : readPlan bytes .outcome ≡ Accepted → length bytes ≤ length held → Came (acceptedWith (length bytes)) (bytes ++ drop (length bytes) held)
+
+  in-room : readPlan bytes .outcome ≡ Accepted → Dec (length held < length bytes) → Came (returned p fs (length held)) (left p fs held)
+  unfolding returnedBy leftBy
+  in-room e (yes h) = let (a, b) = too-short (length bytes) bytes held h in rw (e, ← a, ← b) no-room
+  in-room e (no n) =
+      let h : length bytes ≤ length held = omega arith in
+      let (a, b) = room-enough (length bytes) bytes held h in
+      rw (e, ← a, ← b) (whole e h)
+
+  by-outcome : (o : Outcome) → readPlan bytes .outcome ≡ o → Came (returned p fs (length held)) (left p fs held)
+  unfolding returnedBy leftBy
+  by-outcome (Refused number place) e = rw e (sent-back number place (numbered bytes e))
+  by-outcome Accepted e = in-room e (decLt (length held) (length bytes))
+
+  came : Came (returned p fs (length held)) (left p fs held)
+  came = by-outcome (readPlan bytes .outcome) refl
+
+  -- "The buffer is untouched by a refusal."
+  pub refused-untouched : returned p fs (length held) .number ≢ 0 → left p fs held ≡ held
+  refused-untouched = go came
+    where
+      go : {r : Returned} {is : List ℕ} → Came r is → r .number ≢ 0 → is ≡ held
+      go (sent-back number place h) n = refl
+      go no-room n = refl
+      go (whole e h) n = absurd (n refl)
+
+  -- "Reading the written bytes gives back the same platform and flows in the same order": of values that fit their fields.
+  pub written-read : FitsPlan p fs → {long : ℕ} → returned p fs (length held) ≡ acceptedWith long → readPlan (take long (left p fs held)) ≡ accepted p fs
+  written-read w {long} = go came
+    where
+      go : {r : Returned} {is : List ℕ} → Came r is → r ≡ acceptedWith long → readPlan (take long is) ≡ accepted p fs
+      go (sent-back number place h) e = let z : number ≡ 0 = ap (λ (r : Returned). r .number) e in absurd (omega arith)
+      go no-room e = let z : _≡_ {A = ℕ} 11 0 = ap (λ (r : Returned). r .number) e in absurd (omega arith)
+      go (whole o h) e =
+          let l : length bytes ≡ long = ap (λ (r : Returned). r .value) e in
+          ap readPlan (take-at bytes (drop (length bytes) held) long l) ∙ given-back p fs w o
+
+  -- "writing what was read from any accepted plan gives the same bytes": all of them, so that method 0 stays 0.
+  pub read-written : (s : List ℕ) → Bytes s → readPlan s ≡ accepted p fs → length s ≤ length held → (returned p fs (length held) ≡ acceptedWith (length s)) × (left p fs held ≡ s ++ drop (length s) held)
+  unfolding returnedBy leftBy accepted
+  read-written s is e h =
+      let same = same-bytes is p fs e in
+      let o : readPlan s .outcome ≡ Accepted = ap (λ (r : Reading). r .outcome) e in
+      let (a, b) = room-enough (length s) s held h in
+      rw (same, o) (sym a, sym b)
+
+  -- A plan is written exactly if its values are allowed and the buffer has room for it.
+  pub legal-written : Legal p fs → 12 + 23 * length fs ≤ length held → returned p fs (length held) ≡ acceptedWith (12 + 23 * length fs)
+  unfolding returnedBy leftBy accepted
+  legal-written w h =
+      let o : readPlan bytes .outcome ≡ Accepted = ap (λ (r : Reading). r .outcome) (written-exactly p fs .1 w) in
+      let l = length-plan p fs in
+      rw o (sym (room-enough (length bytes) bytes held (omega arith) .0) ∙ ap acceptedWith l)
+
+  pub written-legal : FitsPlan p fs → returned p fs (length held) .number ≡ 0 → Legal p fs × (12 + 23 * length fs ≤ length held)
+  written-legal w = go came
+    where
+      go : {r : Returned} {is : List ℕ} → Came r is → r .number ≡ 0 → Legal p fs × (12 + 23 * length fs ≤ length held)
+      go (sent-back number place h) e = absurd (omega arith)
+      go no-room e = absurd (omega arith)
+      go (whole o h) e = (written-exactly p fs .0 (given-back p fs w o), omega (arith, length-plan p fs))
