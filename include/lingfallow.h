@@ -1,7 +1,9 @@
-/* Lingfallow: worst-case delays of the message flows of a plan, for C11 and C++ on x86-64 Linux.
+/* Lingfallow: worst-case delays of the message flows of a plan, and a writer of plans, for C11 and C++ on x86-64 Linux.
  *
- * Link with libanalyser.a, which `rt staticlib analyser` writes to target/staticlib/. "Document 01" is the paper with
- * the exact rules; plans/ has plans in commented hex, and examples/analyse.c a program to start from.
+ * For lingfallow_analyse link with libanalyser.a, for lingfallow_write with libwriter.a; `rt staticlib analyser` and
+ * `rt staticlib writer` write them to target/staticlib/. Neither needs the other, and a program may link both. "Document
+ * 01" is the paper with the exact rules; plans/ has plans in commented hex, and examples/analyse.c and examples/write.c
+ * are programs to start from.
  */
 #ifndef LINGFALLOW_H
 #define LINGFALLOW_H
@@ -38,7 +40,7 @@ extern "C" {
 /* What a call returns. */
 struct lingfallow_returned {
     uint8_t number; /* 0: accepted; 1 to 11: refused */
-    size_t value;   /* accepted: the reply's length; refused: the place */
+    size_t value;   /* accepted: the length of what was written; refused: the place */
 };
 
 /* Analyses the plan in the plan_length bytes at plan, and writes its reply into the reply_length bytes at reply.
@@ -82,6 +84,58 @@ struct lingfallow_returned {
  */
 struct lingfallow_returned lingfallow_analyse(const uint8_t *plan, size_t plan_length, uint8_t *reply,
                                               size_t reply_length);
+
+/* A plan as numbers. Each number has the width that its field has in the plan's bytes, so that none is cut; document
+ * 01's table says which values are allowed. */
+#define LINGFALLOW_MOST_FLOWS 64
+
+struct lingfallow_platform {
+    uint8_t columns; /* 1 to 8 */
+    uint8_t rows;    /* 1 to 8 */
+    uint8_t link;    /* cycles over a link: 1 to 16 */
+    uint8_t routing; /* cycles in a router: 0 to 16 */
+    uint8_t buffer;  /* flits of a buffer: 1 to 64 */
+    uint8_t method;  /* 1 SB, 2 XLWX, 3 IBN; 0: the house's default */
+};
+
+struct lingfallow_flow {
+    uint16_t id;         /* 0 to 65,534; no other flow has it */
+    uint16_t priority;   /* 1 to 65,535; 1 is the highest, and no other flow has it */
+    uint8_t source;      /* below columns x rows */
+    uint8_t destination; /* below columns x rows, and not the source */
+    uint16_t flits;      /* 1 to 65,535 */
+    uint32_t period;     /* cycles: 1 to 1,000,000,000 */
+    uint32_t deadline;   /* cycles: 1 to the period */
+    uint32_t jitter;     /* cycles: 0 to 1,000,000,000 */
+};
+
+struct lingfallow_plan {
+    struct lingfallow_platform platform;
+    struct lingfallow_flow flows[LINGFALLOW_MOST_FLOWS];
+    size_t count; /* the plan's flows are the first so many; what stands behind them changes nothing */
+};
+
+/* Writes the bytes of the plan into the length bytes at bytes: the platform record, the flows' records in their order
+ * and the end record, 12 + 23n bytes for n flows, at most LINGFALLOW_LONGEST_PLAN.
+ *
+ * Accepted: number is 0 and value is the plan's length. The first value bytes hold the plan; every further byte of the
+ * buffer holds what it held before. lingfallow_analyse accepts these bytes, and of the same platform and the same flows
+ * in the same order: method 0 stays 0.
+ *
+ * Refused: number and value are those that lingfallow_analyse gives for the bytes as they would have been written (5, 7,
+ * 8 or 9 of the table above, at a place in those bytes); then 11 at 0, if length is below 12 + 23n. The whole buffer
+ * holds what it held before. A count above 64 says that there are flows which the array has no places for: number is 6
+ * and value 1,481, the place of flow 65, unless the platform or one of the first 64 flows is in fault.
+ *
+ * It asks nothing of the numbers and nothing of the length. Of the pointer it asks that it points to length bytes that
+ * may be written, and that nothing else writes to them during the call; of length 0 it may be null. The plan is passed
+ * by value, so that the call has a copy of its own.
+ *
+ * What it returns, what the buffer holds and that it ends are proved of the Rattle code
+ * (crates/writer/specs/Written.antt). Seen in the archive and tested, not proved (tests/examples.sh): no data that
+ * changes, no heap, memcpy and memset alone are called, and under 16 KiB of stack.
+ */
+struct lingfallow_returned lingfallow_write(struct lingfallow_plan plan, uint8_t *bytes, size_t length);
 
 #ifdef __cplusplus
 }

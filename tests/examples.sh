@@ -1,6 +1,7 @@
 #!/usr/bin/env bash
-# The header and the examples for C and Rust: both programs must print of every plan of plans/ what its .text says,
-# less the mesh line, which no reply has. A call must do with memory what include/lingfallow.h says of it.
+# The header and the examples for C and Rust: the analysing ones must print of every plan of plans/ what its .text says,
+# less the mesh line, which no reply has; the writing ones must write plan P. A call must do with memory what
+# include/lingfallow.h says of it.
 set -euo pipefail
 cd "$(dirname "$0")/.."
 
@@ -14,24 +15,24 @@ fail() {
 }
 
 build() {
-  need gcc
-  need g++
-  need rustc
-  build_archive
+  need_compilers
+  build_archives
   mkdir -p "$out"
-  g++ "${strict[@]}" -fsyntax-only -x c++ include/lingfallow.h
-  gcc -std=c11 "${strict[@]}" examples/analyse.c "$archive" -o "$out/analyse-c"
-  gcc -std=c11 "${strict[@]}" tests/memory.c "$archive" -o "$out/memory"
-  rustc --edition 2021 -D warnings -L target/staticlib examples/analyse.rs -o "$out/analyse-rust"
+  "${cpp[@]}" "${strict[@]}" -fsyntax-only -x c++ include/lingfallow.h
+  for example in analyse:analyser write:writer; do
+    "${c[@]}" -std=c11 "${strict[@]}" "examples/${example%:*}.c" "target/staticlib/lib${example#*:}.a" -o "$out/${example%:*}-c"
+    "${rust[@]}" --edition 2021 -D warnings -L target/staticlib "examples/${example%:*}.rs" -o "$out/${example%:*}-rust"
+  done
+  "${c[@]}" -std=c11 "${strict[@]}" tests/memory.c "$analyser" "$writer" -o "$out/memory"
 }
 
-# What the header says of the archive: two functions from outside, and no data that changes.
+# What the header says of an archive: two functions from outside, and no data that changes.
 check_archive() {
   local outside changing
-  outside=$(nm -u "$archive" | awk '$1 == "U" { print $2 }' | sort | xargs)
-  [ "$outside" = "memcpy memset" ] || fail "$archive calls: $outside"
-  changing=$(size "$archive" | awk 'NR > 1 { bytes += $2 + $3 } END { print bytes }')
-  [ "$changing" = 0 ] || fail "$archive has $changing bytes of data that change"
+  outside=$("${tools}nm" -u "$1" | awk '$1 == "U" { print $2 }' | sort | xargs)
+  [ "$outside" = "memcpy memset" ] || fail "$1 calls: $outside"
+  changing=$("${tools}size" "$1" | awk 'NR > 1 { bytes += $2 + $3 } END { print bytes }')
+  [ "$changing" = 0 ] || fail "$1 has $changing bytes of data that change"
 }
 
 # check PROGRAM NAME: what it prints of the plan, its exit status, and that it writes no error
@@ -39,14 +40,15 @@ check() {
   local program=$1 name=$2 status=0 expected=0
   sed '/^mesh /d' "plans/$name.text" >"$out/expected"
   if grep -q '^refused ' "$out/expected"; then expected=1; fi
-  "$program" <"plans/$name.plan" >"$out/printed" 2>"$out/errors" || status=$?
+  "${emulator[@]}" "$program" <"plans/$name.plan" >"$out/printed" 2>"$out/errors" || status=$?
   cmp "$out/printed" "$out/expected" || fail "$program prints something else of $name"
   [ ! -s "$out/errors" ] || fail "$program writes to standard error on $name"
   [ "$status" = "$expected" ] || fail "$program exits with $status on $name, not $expected"
 }
 
 build
-check_archive
+check_archive "$analyser"
+check_archive "$writer"
 plans=0
 for plan in plans/*.plan; do
   for language in c rust; do
@@ -55,5 +57,8 @@ for plan in plans/*.plan; do
   plans=$((plans + 1))
 done
 [ "$plans" -gt 0 ] || fail "plans/ has no plan"
-"$out/memory" <plans/P.plan
-echo "examples: 2 programs agree on $plans plans"
+for language in c rust; do
+  "${emulator[@]}" "$out/write-$language" | cmp - plans/P.plan || fail "write-$language writes something else than P"
+done
+"${emulator[@]}" "$out/memory" <plans/P.plan
+echo "examples: 2 programs agree on $plans plans, and 2 write P"

@@ -11,23 +11,23 @@ cd "$(dirname "$0")/.."
 . tests/common/build.sh
 witness=target/independent/independent
 
-need rustc
-build_archive
+need_compilers
+build_archives
 build_bounds
 
 mkdir -p target/independent
-rustc --edition 2021 -O -D warnings -L native=target/staticlib -l static=analyser \
+"${rust[@]}" --edition 2021 -O -D warnings -L native=target/staticlib -l static=analyser -l static=writer \
   -o "$witness" tests/independent/main.rs
 
 case "${1:-}" in
 --help)
-  "$witness" --help
+  "${emulator[@]}" "$witness" --help
   ;;
 --*)
-  "$witness" "$bounds" "$@"
+  "${emulator[@]}" "$witness" "$bounds" "$@"
   ;;
 *)
-  "$witness" "$bounds" --planted
-  "$witness" "$bounds" "$@"
+  "${emulator[@]}" "$witness" "$bounds" --planted
+  "${emulator[@]}" "$witness" "$bounds" "$@"
   ;;
 esac

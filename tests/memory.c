@@ -1,6 +1,6 @@
-/* What a call does with memory: the bytes of its reply buffer, null pointers and the stack. Reads plan P.
+/* What a call does with memory: the bytes of its buffer, null pointers and the stack. Reads plan P.
  *
- *     gcc -std=c11 -Iinclude tests/memory.c target/staticlib/libanalyser.a -o target/memory
+ *     gcc -std=c11 -Iinclude tests/memory.c target/staticlib/libanalyser.a target/staticlib/libwriter.a -o target/memory
  *     target/memory < plans/P.plan
  */
 #define _XOPEN_SOURCE 700
@@ -12,7 +12,8 @@
 
 #include "lingfallow.h"
 
-enum { P_LENGTH = 81, P_REPLY = 51, ROOM = 64, HELD = 0xA5, STACK_MOST = 64 * 1024, STACK_LENT = 256 * 1024 };
+enum { P_LENGTH = 81, P_REPLY = 51, ROOM = 64, HELD = 0xA5, STACK_LENT = 256 * 1024 };
+enum { ANALYSE_STACK = 64 * 1024, WRITE_STACK = 16 * 1024, WRITE_ROOM = P_LENGTH + 9 };
 
 static const uint8_t p_reply[P_REPLY] = {
     0x81, 0, 13, 0, 2, 0, 0xFF, 0xFF, 0, 0, 0x00, 0x3E, 0, 0, 0, 1, /* 2 bounded 62 rounds 1 */
@@ -23,6 +24,12 @@ static const uint8_t p_reply[P_REPLY] = {
 
 static uint8_t plan[P_LENGTH];
 static uint8_t reply[ROOM];
+static uint8_t written[WRITE_ROOM];
+static struct lingfallow_plan numbers = {
+    .platform = {6, 1, 1, 0, 10, 3},
+    .flows = {{2, 1, 4, 5, 60, 200, 200, 0}, {3, 2, 0, 5, 198, 4000, 4000, 0}, {5, 3, 1, 4, 128, 6000, 6000, 0}},
+    .count = 3,
+};
 static uint8_t stack[STACK_LENT];
 static ucontext_t caller, callee;
 
@@ -55,18 +62,36 @@ static bool null_gives(const uint8_t *bytes, size_t length, uint8_t number, size
     return returned.number == number && returned.value == value;
 }
 
+/* The same of a writing of P, with another count. */
+static bool writes(size_t count, size_t length, uint8_t number, size_t value, size_t changed) {
+    memset(written, HELD, WRITE_ROOM);
+    numbers.count = count;
+    struct lingfallow_returned returned = lingfallow_write(numbers, written, length);
+    return returned.number == number && returned.value == value && memcmp(written, plan, changed) == 0 &&
+           held(written + changed, WRITE_ROOM - changed);
+}
+
+static bool null_written(void) {
+    struct lingfallow_returned returned = lingfallow_write(numbers, NULL, 0);
+    return returned.number == 11 && returned.value == 0;
+}
+
+static void write_p(void) {
+    lingfallow_write(numbers, written, WRITE_ROOM);
+}
+
 static void analyse_p(void) {
     lingfallow_analyse(plan, P_LENGTH, reply, ROOM);
 }
 
 /* The call runs on a stack of its own, filled beforehand: what changed of it was used. It grows downwards. */
-static size_t stack_used(void) {
+static size_t stack_used(void (*call)(void)) {
     memset(stack, HELD, STACK_LENT);
     expect(getcontext(&callee) == 0, "there is a context");
     callee.uc_stack.ss_sp = stack;
     callee.uc_stack.ss_size = STACK_LENT;
     callee.uc_link = &caller;
-    makecontext(&callee, analyse_p, 0);
+    makecontext(&callee, call, 0);
     expect(swapcontext(&caller, &callee) == 0, "the call comes back");
     size_t untouched = 0;
     while (untouched < STACK_LENT && stack[untouched] == HELD) {
@@ -84,8 +109,15 @@ int main(void) {
     expect(gives(0, ROOM, 1, 0, 0), "no bytes are refused and the buffer stays as it was");
     expect(null_gives(NULL, 0, 1, 0), "two null pointers of length 0 are an empty plan and an empty buffer");
     expect(null_gives(plan, P_LENGTH, 11, 0), "a null pointer of length 0 is a buffer that is too short");
-    size_t used = stack_used();
-    expect(used < STACK_MOST, "a call takes under 64 KiB of stack");
-    printf("memory: every byte as promised, %zu bytes of stack\n", used);
+    expect(writes(3, P_LENGTH - 1, 11, 0, 0), "a buffer of 80 bytes is too short for P and stays as it was");
+    expect(writes(3, P_LENGTH, 0, P_LENGTH, P_LENGTH), "a buffer of 81 bytes holds P; nothing behind it changes");
+    expect(writes(3, WRITE_ROOM, 0, P_LENGTH, P_LENGTH), "a longer buffer keeps its further bytes");
+    expect(writes(4, WRITE_ROOM, 5, 83, 0), "a fourth flow of zeros has no priority, and the buffer stays as it was");
+    numbers.count = 3;
+    expect(null_written(), "a null pointer of length 0 is a buffer that is too short for a plan");
+    size_t analysing = stack_used(analyse_p), writing = stack_used(write_p);
+    expect(analysing < ANALYSE_STACK, "an analysis takes under 64 KiB of stack");
+    expect(writing < WRITE_STACK, "a writing takes under 16 KiB of stack");
+    printf("memory: every byte as promised, %zu bytes of stack to analyse and %zu to write\n", analysing, writing);
     return 0;
 }
