@@ -1,6 +1,7 @@
 //! One plan's bytes: what is expected against what the library and the program say.
 
 use crate::answer::{expect, Accepted, Expected};
+use crate::disagreement::{agree, differ, hex, same_call, Called, Disagreement};
 use crate::law::{Law, Rule};
 use crate::product::{call_library, run_program, Lent, Returned};
 use crate::random::Random;
@@ -8,21 +9,9 @@ use crate::reading::Refusal;
 use crate::tally::Tally;
 use std::io;
 
-pub struct Disagreement {
-    pub bytes: Vec<u8>,
-    pub about: String,
-    pub expected: String,
-    pub came: String,
-}
-
-pub fn hex(bytes: &[u8]) -> String {
-    bytes.iter().map(|byte| format!("{byte:02X}")).collect()
-}
-
 pub struct Trial<'a> {
     pub bytes: &'a [u8],
     pub law: Law,
-    pub program: &'a str,
 }
 
 /// What the program reads at most.
@@ -32,25 +21,22 @@ const PROGRAM_READS: usize = 2048;
 const PIECES: usize = 3;
 
 impl Trial<'_> {
-    fn differ(&self, about: &str, expected: String, came: String) -> Disagreement {
-        Disagreement { bytes: self.bytes.to_vec(), about: about.to_string(), expected, came }
-    }
-
     fn agree(&self, same: bool, about: &str, sides: impl Fn() -> (String, String)) -> Result<(), Disagreement> {
-        if same {
-            return Ok(());
-        }
-        let (expected, came) = sides();
-        Err(self.differ(about, expected, came))
+        agree(self.bytes, same, about, sides)
     }
 
-    pub fn compare(&self, random: &mut Random, tally: &mut Tally) -> Result<Expected, Disagreement> {
-        let broken = |words| self.differ("a claim of document 01", "that it holds".to_string(), words);
-        let expected = expect(self.bytes, self.law).map_err(broken)?;
+    pub fn expected(&self) -> Result<Expected, Disagreement> {
+        let broken = |words| differ(self.bytes, "a claim of document 01", "that it holds".to_string(), words);
+        expect(self.bytes, self.law).map_err(broken)
+    }
+
+    pub fn compare(&self, program: &str, random: &mut Random, tally: &mut Tally) -> Result<Expected, Disagreement> {
+        let expected = self.expected()?;
         for length in self.reply_lengths(&expected, random) {
-            self.library(&expected, length, random, tally)?;
+            let number = self.library(&expected, length, random)?;
+            tally.called(number);
         }
-        self.text(&expected, random)?;
+        self.text(program, &expected, random)?;
         self.text_of_part(&expected)?;
         tally.count(&expected);
         Ok(expected)
@@ -68,69 +54,61 @@ impl Trial<'_> {
     }
 
     /// The number and the value that belong to a reply buffer's length.
-    fn returned(&self, answer: &Result<Accepted, Refusal>, length: usize) -> (u8, usize) {
-        let too_short = (11, self.law.place(11, 0));
+    fn returned(&self, answer: &Result<Accepted, Refusal>, length: usize) -> Returned {
+        let too_short = Returned { number: 11, value: self.law.place(11, 0) };
         match answer {
             Err(_) if length == 0 && self.law.breaks(Rule::ShortFirst) => too_short,
-            Err(refusal) => (refusal.number, refusal.place),
+            Err(refusal) => Returned { number: refusal.number, value: refusal.place },
             Ok(accepted) => {
                 let needed = accepted.reply.len();
                 let more = usize::from(self.law.breaks(Rule::ReplyOneMore));
                 if length < needed + more {
                     too_short
                 } else {
-                    (0, needed)
+                    Returned { number: 0, value: needed }
                 }
             }
         }
     }
 
     /// The reply buffer with its guards as the call has to leave it.
-    fn left(&self, before: &Lent, answer: &Result<Accepted, Refusal>, number: u8) -> Vec<u8> {
-        let mut whole = before.whole.clone();
+    fn left(&self, before: &Lent, answer: &Result<Accepted, Refusal>, number: u8) -> Lent {
+        let mut left = before.clone();
         let (start, end) = (before.before, before.before + before.length);
         if let (Ok(accepted), 0) = (answer, number) {
+            left = before.with(&accepted.reply);
             let own = start + accepted.reply.len();
-            whole[start..own].copy_from_slice(&accepted.reply);
             // At the end of the buffer there is no further byte to write.
-            whole[own] ^= u8::from(self.law.breaks(Rule::FurtherWritten) && own < end);
+            left.whole[own] ^= u8::from(self.law.breaks(Rule::FurtherWritten) && own < end);
         }
-        whole[start] ^= u8::from(self.law.breaks(Rule::RefusalWrites) && number != 0 && before.length > 0);
-        whole[start - 1] ^= u8::from(self.law.breaks(Rule::GuardBefore));
-        whole[end] ^= u8::from(self.law.breaks(Rule::GuardBehind));
-        whole
+        left.whole[start] ^= u8::from(self.law.breaks(Rule::RefusalWrites) && number != 0 && before.length > 0);
+        left.whole[start - 1] ^= u8::from(self.law.breaks(Rule::GuardBefore));
+        left.whole[end] ^= u8::from(self.law.breaks(Rule::GuardBehind));
+        left
     }
 
-    fn library(
-        &self,
-        expected: &Expected,
-        length: usize,
-        random: &mut Random,
-        tally: &mut Tally,
-    ) -> Result<(), Disagreement> {
+    /// Gives back the number that was returned.
+    pub fn library(&self, expected: &Expected, length: usize, random: &mut Random) -> Result<u8, Disagreement> {
         let plan = Lent::holding(self.bytes, random);
         let reply = Lent::holding(&random.bytes(length), random);
         let (mut plan_after, mut reply_after) = (plan.clone(), reply.clone());
-        let Returned { number, value } = call_library(&mut plan_after, &mut reply_after);
+        let returned = call_library(&mut plan_after, &mut reply_after);
         let due = self.returned(&expected.answer, length);
-        let words = |(number, value): (u8, usize)| format!("number {number}, value {value}");
-        let about = format!("the library's number and value, reply buffer of {length}");
-        self.agree(due == (number, value), &about, || (words(due), words((number, value))))?;
-        let left = self.left(&reply, &expected.answer, due.0);
-        let about = format!("the reply buffer of {length}, with {} guard bytes before it", reply.before);
-        self.agree(left == reply_after.whole, &about, || (hex(&left), hex(&reply_after.whole)))?;
+        let left = self.left(&reply, &expected.answer, due.number);
+        let (due, came) = (Called { returned: due, buffer: left }, Called { returned, buffer: reply_after });
+        same_call(self.bytes, "the library's", "reply buffer", &due, &came)?;
         let mut kept = plan.whole.clone();
         kept[plan.before + plan.length - 1] ^= u8::from(self.law.breaks(Rule::PlanWritten));
         let about = format!("the plan's buffer, with {} guard bytes before it", plan.before);
         self.agree(kept == plan_after.whole, &about, || (hex(&kept), hex(&plan_after.whole)))?;
-        tally.called(number);
-        Ok(())
+        Ok(came.returned.number)
     }
 
-    fn text(&self, expected: &Expected, random: &mut Random) -> Result<(), Disagreement> {
+    fn text(&self, program: &str, expected: &Expected, random: &mut Random) -> Result<(), Disagreement> {
         let pieces = if random.below(64) == 0 { PIECES } else { 1 };
-        let unable = |error: io::Error| self.differ("the program", "that it runs".to_string(), error.to_string());
-        let output = run_program(self.program, self.bytes, pieces).map_err(unable)?;
+        let unable =
+            |error: io::Error| differ(self.bytes, "the program", "that it runs".to_string(), error.to_string());
+        let output = run_program(program, self.bytes, pieces).map_err(unable)?;
         let printed = |bytes: &[u8]| String::from_utf8_lossy(bytes).into_owned();
         let about = format!("the program's text, its input in {pieces} pieces");
         let same = output.stdout == expected.text.as_bytes();

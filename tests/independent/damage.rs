@@ -6,9 +6,12 @@ use crate::random::Random;
 use crate::reading::MOST_FLOWS;
 
 /// A plan's records; after a damage they may be anything.
-type Records = Vec<Vec<u8>>;
+pub type Records = Vec<Vec<u8>>;
 
-type Damage = fn(&mut Records, &mut Random);
+pub type Damage = fn(&mut Records, &mut Random);
+
+/// Chooses a value for a field, given its highest.
+type Choice = fn(&Field, Number, &mut Random) -> Number;
 
 const DAMAGES: [Damage; 15] = [
     flip_byte,
@@ -78,17 +81,38 @@ fn number_in(record: &[u8], offset: usize, width: usize) -> Number {
     part.iter().fold(0, |sum, byte| 256 * sum + Number::from(*byte))
 }
 
+fn nodes_in(records: &Records) -> Number {
+    number_in(&records[0], COLUMNS, 1) * number_in(&records[0], ROWS, 1)
+}
+
 /// One field to an edge of its values, or to one beyond.
-fn field_to_edge(records: &mut Records, random: &mut Random) {
+pub fn field_to_edge(records: &mut Records, random: &mut Random) {
+    field_to(edge, records, random);
+}
+
+/// One field to any value that its bytes can hold.
+pub fn field_to_any(records: &mut Records, random: &mut Random) {
+    field_to(any_value, records, random);
+}
+
+fn field_to(choice: Choice, records: &mut Records, random: &mut Random) {
     let index = if random.chance(40) { 0 } else { any_record(records, random) };
-    let nodes = number_in(&records[0], COLUMNS, 1) * number_in(&records[0], ROWS, 1);
-    edge_in(&mut records[index], nodes, random);
+    let nodes = nodes_in(records);
+    field_in(choice, &mut records[index], nodes, random);
+}
+
+fn edge(field: &Field, high: Number, random: &mut Random) -> Number {
+    random.pick(&[field.low, field.low - 1, high, high + 1])
+}
+
+fn any_value(field: &Field, _high: Number, random: &mut Random) -> Number {
+    number_in(&random.bytes(field.width), 0, field.width)
 }
 
 /// A longer one could bring so many rounds that a run takes minutes.
 const LONGEST_DEADLINE: Number = 10_000_000;
 
-fn edge_in(record: &mut [u8], nodes: Number, random: &mut Random) {
+fn field_in(choice: Choice, record: &mut [u8], nodes: Number, random: &mut Random) {
     let fields = record.first().map_or(&[][..], |tag| fields_of(Number::from(*tag)));
     if fields.is_empty() {
         return;
@@ -99,8 +123,8 @@ fn edge_in(record: &mut [u8], nodes: Number, random: &mut Random) {
         High::LastNode => nodes - 1,
         High::Period => number_in(record, PERIOD, 4),
     };
-    let mut value = random.pick(&[field.low, field.low - 1, high, high + 1]);
-    if matches!(field.high, High::Period) && value == high && high > LONGEST_DEADLINE {
+    let mut value = choice(field, high, random);
+    if matches!(field.high, High::Period) && value <= high && value > LONGEST_DEADLINE {
         value = high + 1;
     }
     put(record, field.offset, &bytes_of(value, field.width));
@@ -167,29 +191,41 @@ fn platform_twice(records: &mut Records, random: &mut Random) {
     records.insert(place, copy);
 }
 
-/// Up to four faults in one flow, so that the order within a record is tried.
+/// How many kinds of faults a flow can have; those of its numbers come first, and leave the header whole.
+const FLOW_FAULTS: usize = 20;
+const NUMBER_FAULTS: usize = 17;
+
 fn faults_in_one_flow(records: &mut Records, random: &mut Random) {
+    faults_of(FLOW_FAULTS, records, random);
+}
+
+pub fn wrong_numbers_in_one_flow(records: &mut Records, random: &mut Random) {
+    faults_of(NUMBER_FAULTS, records, random);
+}
+
+/// Up to four faults in one flow, so that the order within a record is tried.
+fn faults_of(kinds: usize, records: &mut Records, random: &mut Random) {
     let flows = flows_in(records);
     if flows.is_empty() {
         return;
     }
-    let nodes = number_in(&records[0], COLUMNS, 1) * number_in(&records[0], ROWS, 1);
+    let nodes = nodes_in(records);
     let index = random.pick(&flows);
     let earlier = records[random.pick(&flows)].clone();
     for _ in 0..1 + random.below(4) {
-        fault_in_flow(&mut records[index], &earlier, nodes, random);
+        fault_in_flow(kinds, &mut records[index], &earlier, nodes, random);
     }
 }
 
-fn fault_in_flow(record: &mut Vec<u8>, earlier: &[u8], nodes: Number, random: &mut Random) {
-    match random.below(20) {
+fn fault_in_flow(kinds: usize, record: &mut Vec<u8>, earlier: &[u8], nodes: Number, random: &mut Random) {
+    match random.below(kinds) {
         0..=3 => put(record, ID, &earlier[ID..ID + 2]),
         4..=7 => put(record, PRIORITY, &earlier[PRIORITY..PRIORITY + 2]),
         8..=11 => {
             let source = number_in(record, SOURCE, 1);
             put(record, DESTINATION, &bytes_of(source, 1));
         }
-        12..=16 => edge_in(record, nodes, random),
+        12..=16 => field_in(edge, record, nodes, random),
         17 => put(record, 1, &bytes_of(random.between(0, 300), 2)),
         18 => put(record, 0, &[random.pick(&[0x00, PLATFORM_TAG, END_TAG, 0xFF])]),
         _ => record.truncate(random.below(23)),
@@ -205,7 +241,7 @@ fn sixty_fifth(random: &mut Random) -> Vec<u8> {
     let earlier = records[1 + random.below(MOST_FLOWS)].clone();
     if random.chance(60) {
         for _ in 0..1 + random.below(3) {
-            fault_in_flow(&mut records[place], &earlier, plan.platform.nodes(), random);
+            fault_in_flow(FLOW_FAULTS, &mut records[place], &earlier, plan.platform.nodes(), random);
         }
     }
     if random.chance(30) {

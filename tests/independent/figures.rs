@@ -1,13 +1,15 @@
 //! The fixed list: plan P with its reply and text, and every row of "Figures to meet", typed from document 01.
 
 use crate::answer::Expected;
-use crate::compare::{hex, Disagreement, Trial};
+use crate::compare::Trial;
+use crate::disagreement::{agree, hex, Disagreement};
 use crate::law::Law;
 use crate::model::{Flow, Plan, Platform};
 use crate::product::{call_library, Lent};
 use crate::random::Random;
 use crate::rules::Analysis;
 use crate::tally::Tally;
+use crate::written::give_back;
 
 const P: &str = "01 0006 06 01 01 00 0A 03
     02 0014 0002 0001 04 05 003C 000000C8 000000C8 00000000
@@ -73,10 +75,8 @@ fn typed(text: &str) -> Vec<u8> {
 
 /// What the document says against what this program expects; the product is held to the latter.
 fn figure(bytes: &[u8], about: &str, expected: String, came: String) -> Result<(), Disagreement> {
-    if expected == came {
-        return Ok(());
-    }
-    Err(Disagreement { bytes: bytes.to_vec(), about: format!("figures to meet: {about}"), expected, came })
+    let about = format!("figures to meet: {about}");
+    agree(bytes, expected == came, &about, || (expected.clone(), came.clone()))
 }
 
 struct Fixed<'a> {
@@ -88,8 +88,10 @@ struct Fixed<'a> {
 impl Fixed<'_> {
     fn agree(&mut self, bytes: &[u8]) -> Result<Expected, Disagreement> {
         self.plans += 1;
-        let trial = Trial { bytes, law: Law::WHOLE, program: self.program };
-        trial.compare(&mut Random::of_plan(0, self.plans as u64), self.tally)
+        let (mut random, trial) = (Random::of_plan(0, self.plans as u64), Trial { bytes, law: Law::WHOLE });
+        let expected = trial.compare(self.program, &mut random, self.tally)?;
+        give_back(bytes, Law::WHOLE, &mut random, self.tally)?;
+        Ok(expected)
     }
 
     fn plan_p(&mut self) -> Result<(), Disagreement> {

@@ -1,16 +1,18 @@
-//! The law is document 01; a planted fault breaks one rule of it on the expected side, so that a run must fail.
+//! The law is document 01, and for writing L1 of document 02; a planted fault breaks one rule of it on the expected
+//! side, so that a run must fail.
 
 use crate::model::{High, Number, FLOW_FIELDS, PLATFORM_FIELDS};
 
 macro_rules! rules {
-    ($($rule:ident $name:literal $words:literal;)*) => {
+    ($([$list:ident] $($rule:ident $name:literal $words:literal;)*)*) => {
         #[derive(Clone, Copy, PartialEq, Eq)]
-        pub enum Rule { $($rule),* }
-        const RULES: &[(Rule, &str, &str)] = &[$((Rule::$rule, $name, $words)),*];
+        pub enum Rule { $($($rule,)*)* }
+        $(const $list: &[(Rule, &str, &str)] = &[$((Rule::$rule, $name, $words)),*];)*
     };
 }
 
 rules! {
+    [ANALYSING]
     FieldsBackwards "fields-backwards" "the last field in fault decides, not the first";
     LastRecord "last-record" "the last record in fault decides, not the first";
     CutAtEnd "cut-at-end" "refusal 1 stands where the bytes end";
@@ -77,6 +79,39 @@ rules! {
     TextRowsFirst "text-rows-first" "the mesh is printed as rows by columns";
     TextNoLastLf "text-no-last-lf" "the last line has no LF";
     TextLateBare "text-late-bare" "a late line without its rounds";
+
+    [WRITING]
+    WriteIdPriority "write-id-priority" "id and priority are written in each other's place";
+    WriteEnds "write-ends" "source and destination are written in each other's place";
+    WriteDeadlineJitter "write-deadline-jitter" "deadline and jitter are written in each other's place";
+    WriteLittleTwo "write-little-two" "fields of two bytes are written least significant byte first";
+    WriteLittleFour "write-little-four" "fields of four bytes are written least significant byte first";
+    WriteLittleLength "write-little-length" "a record's length is written least significant byte first";
+    WriteLengthWhole "write-length-whole" "a record's length counts its header too";
+    WriteIdByte "write-id-byte" "an id is cut to one byte";
+    WriteMethod "write-method" "method 0 is written as 2";
+    WriteNoEnd "write-no-end" "the end record is not written";
+    WriteLastByte "write-last-byte" "the last byte is not written";
+    WriteReversed "write-reversed" "the flows are written in reverse order";
+    WriteByPriority "write-by-priority" "the flows are written in the order of priority";
+    WriteBehind "write-behind" "the flow behind the count is written too";
+    WriteOneLess "write-one-less" "the last flow of the count is not written";
+    WriteCutToMost "write-cut-to-most" "a count above 64 is taken for 64";
+    WriteCountFourBytes "write-count-four-bytes" "a count is cut to four bytes";
+    WriteManyFirst "write-many-first" "refusal 6 comes before the faults of the first 64 flows";
+    WriteShortFirst "write-short-first" "refusal 11 comes before the reader's";
+    WriteOneMore "write-one-more" "a buffer of exactly the needed length is too short";
+    WritePlaceZero "write-place-zero" "the place of a refusal is 0";
+    WriteValueBuffer "write-value-buffer" "the value is the buffer's length";
+    WriteRefusalWrites "write-refusal-writes" "a refusal has written the bytes before its place";
+    WriteShortWrites "write-short-writes" "refusal 11 has written what there is room for";
+    WriteCleared "write-cleared" "the further bytes of the buffer are cleared";
+    WriteGuardBefore "write-guard-before" "the guard byte before the buffer is written";
+    WriteGuardBehind "write-guard-behind" "the guard byte behind the buffer is written";
+    RereadMethod "reread-method" "reading what was written gives method 2 for 0";
+    RereadReversed "reread-reversed" "reading what was written gives the flows in reverse order";
+    RewriteMethod "rewrite-method" "writing what was read gives method 2 for 0";
+    RewriteReversed "rewrite-reversed" "writing what was read gives the flows in reverse order";
 }
 
 #[derive(Clone, Copy, PartialEq, Eq)]
@@ -100,6 +135,21 @@ pub enum Plant {
 
 /// The numbers in the order of the checks within a record.
 pub const ORDER: [u8; 10] = [1, 2, 4, 3, 1, 6, 5, 9, 7, 8];
+
+/// The refusals of a writing: the headers of written bytes are right, and nothing comes after their end record.
+pub const OF_WRITING: [u8; 6] = [5, 6, 7, 8, 9, 11];
+
+impl Plant {
+    /// Whether a fault of analysing can be seen from written bytes too.
+    fn shows_in_writing(&self) -> bool {
+        match self {
+            Plant::Rule(rule) => matches!(rule, Rule::FieldsBackwards | Rule::LastRecord | Rule::ReplyByPriority),
+            Plant::Order(first) => ORDER[*first..first + 2].iter().all(|number| OF_WRITING.contains(number)),
+            Plant::Place(number) | Plant::Never(number) => OF_WRITING.contains(number),
+            Plant::Edge(..) => true,
+        }
+    }
+}
 
 #[derive(Clone, Copy)]
 pub struct Law {
@@ -147,25 +197,61 @@ impl Law {
     }
 }
 
-/// Every planted fault with its name and its words.
-pub fn plants() -> Vec<(Plant, String, String)> {
-    let rules = RULES.iter().map(|(rule, name, words)| (Plant::Rule(*rule), name.to_string(), words.to_string()));
+/// The law of analysing and the law of writing: a planted fault breaks one of them.
+#[derive(Clone, Copy)]
+pub struct Laws {
+    pub analysing: Law,
+    pub writing: Law,
+}
+
+impl Laws {
+    pub const WHOLE: Laws = Laws { analysing: Law::WHOLE, writing: Law::WHOLE };
+}
+
+/// A planted fault with its name and its words.
+pub struct Planted {
+    pub laws: Laws,
+    pub name: String,
+    pub words: String,
+}
+
+type Named = (Plant, String, String);
+
+fn planted((plant, name, words): Named, laws: fn(Law) -> Laws) -> Planted {
+    Planted { laws: laws(Law::with(plant)), name, words }
+}
+
+pub fn plants() -> Vec<Planted> {
+    let also = analysing_plants().into_iter().filter(|(plant, _, _)| plant.shows_in_writing());
+    let also = also.map(|(plant, name, words)| (plant, format!("written-{name}"), format!("in writing, {words}")));
+    let analysing = analysing_plants().into_iter();
+    let analysing = analysing.map(|named| planted(named, |law| Laws { analysing: law, ..Laws::WHOLE }));
+    let writing = rule_plants(WRITING).chain(also);
+    let writing = writing.map(|named| planted(named, |law| Laws { writing: law, ..Laws::WHOLE }));
+    analysing.chain(writing).collect()
+}
+
+fn rule_plants(rules: &'static [(Rule, &str, &str)]) -> impl Iterator<Item = Named> {
+    rules.iter().map(|(rule, name, words)| (Plant::Rule(*rule), name.to_string(), words.to_string()))
+}
+
+fn analysing_plants() -> Vec<Named> {
     let orders = (0..ORDER.len() - 1).map(order_plant);
     let places = (1..=11).map(|number| {
         (Plant::Place(number), format!("place-{number}"), format!("refusal {number} stands one byte later"))
     });
     let nevers = (6..=10)
         .map(|number| (Plant::Never(number), format!("never-{number}"), format!("refusal {number} is not given")));
-    rules.chain(orders).chain(places).chain(nevers).chain(edge_plants()).collect()
+    rule_plants(ANALYSING).chain(orders).chain(places).chain(nevers).chain(edge_plants()).collect()
 }
 
-fn order_plant(first: usize) -> (Plant, String, String) {
+fn order_plant(first: usize) -> Named {
     let (before, behind) = (ORDER[first], ORDER[first + 1]);
     let words = format!("within a record {behind} comes before {before}");
     (Plant::Order(first), format!("swap-{before}-{behind}"), words)
 }
 
-fn edge_plants() -> Vec<(Plant, String, String)> {
+fn edge_plants() -> Vec<Named> {
     let mut plants = Vec::new();
     for field in PLATFORM_FIELDS.iter().chain(FLOW_FIELDS.iter()) {
         let greatest: Number = (1 << (8 * field.width)) - 1;

@@ -4,6 +4,8 @@ mod answer;
 mod claims;
 mod compare;
 mod damage;
+mod disagreement;
+mod edits;
 mod figures;
 mod law;
 mod model;
@@ -14,9 +16,12 @@ mod reading;
 mod routes;
 mod rules;
 mod tally;
+mod writing;
+mod written;
 
-use compare::{hex, Disagreement, Trial};
-use law::{plants, Law, Plant};
+use compare::Trial;
+use disagreement::{hex, Disagreement};
+use law::{plants, Law, Laws, Planted};
 use random::Random;
 use std::process::ExitCode;
 use std::time::Instant;
@@ -32,17 +37,31 @@ independent PROGRAM --plant NAME [COUNT [SEED]]
 independent PROGRAM --planted          do so for every planted fault
 independent --help                     this text and the planted faults
 
-PROGRAM is the path of the program `bounds`.";
+PROGRAM is the path of the program `bounds`. Each plan is analysed, and written again from what was read of it; with
+each of the COUNT plans, other numbers made from SEED are written too.";
 
 /// The first disagreement, with how many plans were tried.
 type Failure = (u64, Disagreement);
 
-fn run(program: &str, law: Law, count: u64, seed: u64, tally: &mut Tally) -> Result<(), Failure> {
+fn run(program: &str, laws: Laws, count: u64, seed: u64, tally: &mut Tally) -> Result<(), Failure> {
     for index in 0..count {
-        let mut random = Random::of_plan(seed, index);
-        let bytes = damage::some_bytes(&mut random);
-        let trial = Trial { bytes: &bytes, law, program };
-        trial.compare(&mut random, tally).map_err(|disagreement| (index + 1, disagreement))?;
+        try_both(program, laws, seed, index, tally).map_err(|disagreement| (index + 1, disagreement))?;
+    }
+    Ok(())
+}
+
+/// A plan's bytes to analyse and numbers to write. A fault planted on one side cannot show on the other.
+fn try_both(program: &str, laws: Laws, seed: u64, index: u64, tally: &mut Tally) -> Result<(), Disagreement> {
+    let mut random = Random::of_plan(seed, index);
+    let bytes = damage::some_bytes(&mut random);
+    if laws.writing.is_whole() {
+        Trial { bytes: &bytes, law: laws.analysing }.compare(program, &mut random, tally)?;
+    }
+    if laws.analysing.is_whole() {
+        let mut random = Random::of_writing(seed, index);
+        written::give_back(&bytes, laws.writing, &mut random, tally)?;
+        let writing = edits::some_writing(&mut random);
+        written::compare(&writing, laws.writing, &mut random, tally)?;
     }
     Ok(())
 }
@@ -68,7 +87,7 @@ fn compare_all(program: &str, count: u64, seed: u64) -> bool {
         }
     }
     let mut tally = Tally::default();
-    if let Err(failure) = run(program, Law::WHOLE, count, seed, &mut tally) {
+    if let Err(failure) = run(program, Laws::WHOLE, count, seed, &mut tally) {
         show(&failure);
         return false;
     }
@@ -86,9 +105,11 @@ fn compare_one(program: &str, text: &str) -> bool {
         Some(bytes) => bytes,
         None => return usage(),
     };
-    let trial = Trial { bytes: &bytes, law: Law::WHOLE, program };
-    match trial.compare(&mut Random::of_plan(0, 0), &mut Tally::default()) {
-        Ok(expected) => print!("{}", expected.text),
+    let (mut random, mut tally) = (Random::of_plan(0, 0), Tally::default());
+    let compared = Trial { bytes: &bytes, law: Law::WHOLE }.compare(program, &mut random, &mut tally);
+    let given_back = |text| written::give_back(&bytes, Law::WHOLE, &mut random, &mut tally).map(|()| text);
+    match compared.map(|expected| expected.text).and_then(given_back) {
+        Ok(text) => print!("{text}"),
         Err(disagreement) => {
             show(&(1, disagreement));
             return false;
@@ -99,28 +120,28 @@ fn compare_one(program: &str, text: &str) -> bool {
 
 /// A planted run fails as it should, and says so by its exit status like any other run.
 fn compare_planted(program: &str, name: &str, count: u64, seed: u64) -> bool {
-    let found = plants().into_iter().find(|(_, known, _)| known == name);
-    let plant = match found {
-        Some((plant, _, _)) => plant,
+    let found = plants().into_iter().find(|planted| planted.name == name);
+    let laws = match found {
+        Some(planted) => planted.laws,
         None => return usage(),
     };
-    match run(program, Law::with(plant), count, seed, &mut Tally::default()) {
+    match run(program, laws, count, seed, &mut Tally::default()) {
         Ok(()) => println!("planted {name}: NOT CAUGHT in {count} plans"),
         Err(failure) => show(&failure),
     }
     false
 }
 
-fn caught_after(program: &str, plant: Plant) -> Option<u64> {
-    let ran = run(program, Law::with(plant), DEFAULT_COUNT, DEFAULT_SEED, &mut Tally::default());
+fn caught_after(program: &str, laws: Laws) -> Option<u64> {
+    let ran = run(program, laws, DEFAULT_COUNT, DEFAULT_SEED, &mut Tally::default());
     ran.err().map(|(after, _)| after)
 }
 
 fn every_planted(program: &str) -> bool {
     let start = Instant::now();
     let mut missed = 0;
-    for (plant, name, words) in plants() {
-        match caught_after(program, plant) {
+    for Planted { laws, name, words } in plants() {
+        match caught_after(program, laws) {
             Some(after) => println!("planted {name}: caught after {after} plans ({words})"),
             None => {
                 println!("planted {name}: NOT CAUGHT in {DEFAULT_COUNT} plans ({words})");
@@ -134,7 +155,7 @@ fn every_planted(program: &str) -> bool {
 
 fn usage() -> bool {
     println!("{HELP}");
-    for (_, name, words) in plants() {
+    for Planted { name, words, .. } in plants() {
         println!("  {name}: {words}");
     }
     false

@@ -8,7 +8,7 @@ pub const FLOW_TAG: u8 = 0x02;
 pub const END_TAG: u8 = 0x7F;
 pub const HEADER: usize = 3;
 
-#[derive(Clone, Debug)]
+#[derive(Clone, Debug, PartialEq, Eq)]
 pub struct Platform {
     pub columns: Number,
     pub rows: Number,
@@ -18,7 +18,7 @@ pub struct Platform {
     pub method: Number,
 }
 
-#[derive(Clone, Debug)]
+#[derive(Clone, Debug, Default, PartialEq, Eq)]
 pub struct Flow {
     pub id: Number,
     pub priority: Number,
@@ -30,7 +30,7 @@ pub struct Flow {
     pub jitter: Number,
 }
 
-#[derive(Clone, Debug)]
+#[derive(Clone, Debug, PartialEq, Eq)]
 pub struct Plan {
     pub platform: Platform,
     pub flows: Vec<Flow>,
@@ -60,6 +60,7 @@ const fn field(name: &'static str, offset: usize, width: usize, low: Number, hig
 pub const BILLION: Number = 1_000_000_000;
 pub const COLUMNS: usize = 3;
 pub const ROWS: usize = 4;
+pub const METHOD: usize = 8;
 pub const ID: usize = 3;
 pub const PRIORITY: usize = 5;
 pub const SOURCE: usize = 7;
@@ -72,7 +73,7 @@ pub const PLATFORM_FIELDS: [Field; 6] = [
     field("link", 5, 1, 1, High::Fixed(16)),
     field("routing", 6, 1, 0, High::Fixed(16)),
     field("buffer", 7, 1, 1, High::Fixed(64)),
-    field("method", 8, 1, 0, High::Fixed(3)),
+    field("method", METHOD, 1, 0, High::Fixed(3)),
 ];
 
 pub const FLOW_FIELDS: [Field; 8] = [

@@ -14,6 +14,11 @@ impl Random {
         Random { state: start.wrapping_add(index.wrapping_mul(0xD1B5_4A32_D192_ED03)) }
     }
 
+    /// Numbers to write have a generator apart from that of the plan with the same index.
+    pub fn of_writing(seed: u64, index: u64) -> Random {
+        Random::of_plan(!seed, index)
+    }
+
     pub fn next(&mut self) -> u64 {
         self.state = self.state.wrapping_add(0x9E37_79B9_7F4A_7C15);
         let mut mixed = self.state;

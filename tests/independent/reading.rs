@@ -46,7 +46,7 @@ const CHECKS: [fn(&Record) -> Vec<Found>; 10] = [
 
 pub const MOST_FLOWS: usize = 64;
 
-fn start_of(index: usize) -> usize {
+pub fn start_of(index: usize) -> usize {
     match index {
         0 => 0,
         _ => 9 + 23 * (index - 1),
@@ -215,9 +215,10 @@ pub fn read(bytes: &[u8], law: Law) -> Result<Plan, Refusal> {
     }
 }
 
-fn plan_at(bytes: &[u8], flows: usize) -> Plan {
+/// The numbers in a platform record and so many flow records, whatever their values.
+pub fn plan_at(bytes: &[u8], flows: usize) -> Plan {
     let of = |index: usize, field: &Field| {
-        number_at(bytes, start_of(index) + field.offset, field.width).expect("a faultless plan has all its fields")
+        number_at(bytes, start_of(index) + field.offset, field.width).expect("whole records have all their fields")
     };
     let p: Vec<Number> = PLATFORM_FIELDS.iter().map(|field| of(0, field)).collect();
     let platform = Platform { columns: p[0], rows: p[1], link: p[2], routing: p[3], buffer: p[4], method: p[5] };

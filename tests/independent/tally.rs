@@ -1,6 +1,7 @@
 //! What a run has seen. A test that cannot see a case is no test, so a run of the default size demands all of them.
 
 use crate::answer::{Accepted, Expected};
+use crate::law::OF_WRITING;
 use crate::model::Number;
 use crate::rules::Verdict;
 use std::collections::BTreeSet;
@@ -21,6 +22,10 @@ pub struct Tally {
     downstream: usize,
     most_rounds: Number,
     most_rounds_bounded: Number,
+    /// Calls of the writer, by the number returned.
+    written: [usize; 12],
+    given_back: usize,
+    written_counts: BTreeSet<usize>,
     meshes: BTreeSet<(Number, Number)>,
     methods: BTreeSet<Number>,
     flow_counts: BTreeSet<usize>,
@@ -30,6 +35,18 @@ impl Tally {
     pub fn called(&mut self, number: u8) {
         self.calls += 1;
         self.refused[11] += usize::from(number == 11);
+    }
+
+    pub fn wrote(&mut self, number: u8, flows: usize) {
+        self.written[usize::from(number)] += 1;
+        if number == 0 {
+            self.written_counts.insert(flows);
+        }
+    }
+
+    /// A plan's bytes came back by writing what was read from them.
+    pub fn gave_back(&mut self) {
+        self.given_back += 1;
     }
 
     pub fn count(&mut self, expected: &Expected) {
@@ -83,11 +100,20 @@ impl Tally {
         println!("upstream k: {}, downstream k: {}", self.upstream, self.downstream);
         println!("most rounds: {}, of a bounded flow: {}", self.most_rounds, self.most_rounds_bounded);
         println!("mesh sizes: {}, flow counts: {}", self.meshes.len(), self.flow_counts.len());
+        let (calls, accepted) = (self.written.iter().sum::<usize>(), self.written[0]);
+        println!("writer calls: {calls}, of them accepted: {accepted}");
+        for number in OF_WRITING {
+            println!("writer calls refused {number}: {}", self.written[usize::from(number)]);
+        }
+        println!("flow counts written: {}", self.written_counts.len());
+        println!("plans given back by writing what was read: {}", self.given_back);
     }
 
     /// The cases that never occurred.
     pub fn unseen(&self) -> Vec<String> {
         let refusals = (1..=11).map(|number| (format!("refusal {number}"), self.refused[number] > 0));
+        let wrote = |number: &u8| self.written[usize::from(*number)] > 0;
+        let of_writing = OF_WRITING.iter().map(|number| (format!("refusal {number} of a writing"), wrote(number)));
         let others = [
             ("acceptance", self.accepted > 0),
             ("bounded", self.bounded > 0),
@@ -102,8 +128,11 @@ impl Tally {
             ("every mesh size", self.meshes.len() == 64),
             ("every method", self.methods.len() == 4),
             ("every number of flows", self.flow_counts.len() == 65),
+            ("acceptance of a writing", self.written[0] > 0),
+            ("every number of flows in an accepted writing", self.written_counts.len() == 65),
+            ("a plan given back by writing what was read", self.given_back > 0),
         ];
-        let all = refusals.chain(others.iter().map(|(name, seen)| (name.to_string(), *seen)));
+        let all = refusals.chain(of_writing).chain(others.iter().map(|(name, seen)| (name.to_string(), *seen)));
         all.filter(|(_, seen)| !seen).map(|(name, _)| name).collect()
     }
 }

@@ -1,0 +1,179 @@
+//! What is expected of numbers to write: the plan's bytes, what is returned, and what the buffer holds.
+
+use crate::disagreement::Called;
+use crate::law::{Law, Rule};
+use crate::model::*;
+use crate::product::{Lent, Returned};
+use crate::reading::{read, start_of, Refusal, MOST_FLOWS};
+use crate::rules::method_used;
+use std::mem::swap;
+
+/// The numbers that are handed over.
+pub struct Writing {
+    pub platform: Platform,
+    /// All that the array has; those behind the count hold anything.
+    pub places: Vec<Flow>,
+    /// Some of the flows that the array has no places for: any will do, since a 65th is refused at its tag.
+    pub further: Vec<Flow>,
+    pub count: usize,
+}
+
+impl Writing {
+    fn counted(&self, law: Law) -> usize {
+        if law.breaks(Rule::WriteCutToMost) {
+            return self.count.min(MOST_FLOWS);
+        }
+        if law.breaks(Rule::WriteCountFourBytes) {
+            return self.count % (1 << 32);
+        }
+        let less = self.count.saturating_sub(usize::from(law.breaks(Rule::WriteOneLess)));
+        less.saturating_add(usize::from(law.breaks(Rule::WriteBehind)))
+    }
+
+    /// What the platform and the list say.
+    pub fn plan(&self, law: Law) -> Plan {
+        let count = self.counted(law);
+        let further = if count > MOST_FLOWS { &self.further[..] } else { &[] };
+        let flows = [&self.places[..count.min(MOST_FLOWS)], further].concat();
+        Plan { platform: self.platform.clone(), flows }
+    }
+}
+
+/// What has to come of a writing, whatever the buffer.
+pub struct Due {
+    refusal: Option<Refusal>,
+    pub needed: usize,
+    /// The plan's, but for a planted fault.
+    pub bytes: Vec<u8>,
+}
+
+impl Due {
+    /// The reader's refusal of the bytes as they would be written, if there is one.
+    pub fn of(writing: &Writing, law: Law) -> Due {
+        let plan = writing.plan(law);
+        let bytes = plan.records().concat();
+        let mut refusal = read(&bytes, law).err();
+        if law.breaks(Rule::WriteManyFirst) && writing.count > MOST_FLOWS {
+            refusal = Some(Refusal { number: 6, place: start_of(MOST_FLOWS + 1) });
+        }
+        Due { refusal, needed: bytes.len(), bytes: misspelt(plan, law) }
+    }
+
+    /// Writing what was read gives the bytes that it was read from.
+    pub fn same(bytes: &[u8], plan: &Plan, law: Law) -> Due {
+        let mut other = plan.clone();
+        use_method(&mut other, law, Rule::RewriteMethod);
+        reverse(&mut other, law, Rule::RewriteReversed);
+        let bytes = if other == *plan { bytes.to_vec() } else { other.records().concat() };
+        Due { refusal: None, needed: bytes.len(), bytes }
+    }
+
+    fn returned(&self, length: usize, law: Law) -> Returned {
+        let too_short = length < self.needed + usize::from(law.breaks(Rule::WriteOneMore));
+        match self.refusal {
+            Some(refusal) if !(too_short && law.breaks(Rule::WriteShortFirst)) => {
+                let place = if law.breaks(Rule::WritePlaceZero) { 0 } else { refusal.place };
+                Returned { number: refusal.number, value: place }
+            }
+            None if !too_short => {
+                let value = if law.breaks(Rule::WriteValueBuffer) { length } else { self.needed };
+                Returned { number: 0, value }
+            }
+            _ => Returned { number: 11, value: law.place(11, 0) },
+        }
+    }
+
+    /// How many of the bytes get into the buffer.
+    fn kept(&self, length: usize, returned: &Returned, law: Law) -> usize {
+        let most = match returned.number {
+            0 => self.bytes.len(),
+            11 if law.breaks(Rule::WriteShortWrites) => length,
+            _ if law.breaks(Rule::WriteRefusalWrites) => returned.value,
+            _ => 0,
+        };
+        most.min(length).min(self.bytes.len())
+    }
+
+    /// What a call over this buffer has to return and to leave.
+    pub fn called(&self, buffer: &Lent, law: Law) -> Called {
+        let returned = self.returned(buffer.length, law);
+        let kept = self.kept(buffer.length, &returned, law);
+        let mut left = buffer.with(&self.bytes[..kept]);
+        if returned.number == 0 && law.breaks(Rule::WriteCleared) {
+            left.inside()[kept..].fill(0);
+        }
+        let (start, end) = (left.before, left.before + left.length);
+        left.whole[start - 1] ^= u8::from(law.breaks(Rule::WriteGuardBefore));
+        left.whole[end] ^= u8::from(law.breaks(Rule::WriteGuardBehind));
+        Called { returned, buffer: left }
+    }
+}
+
+/// The method really used takes the place of the one asked for, if this rule is broken.
+pub fn use_method(plan: &mut Plan, law: Law, rule: Rule) {
+    if law.breaks(rule) {
+        plan.platform.method = method_used(&plan.platform, Law::WHOLE);
+    }
+}
+
+pub fn reverse(plan: &mut Plan, law: Law, rule: Rule) {
+    if law.breaks(rule) {
+        plan.flows.reverse();
+    }
+}
+
+/// The plan's bytes with the planted fault, if it is one of the bytes.
+fn misspelt(plan: Plan, law: Law) -> Vec<u8> {
+    let mut records = wrong_numbers(plan, law).records();
+    for record in &mut records {
+        wrong_spelling(record, law);
+    }
+    if law.breaks(Rule::WriteNoEnd) {
+        records.pop();
+    }
+    let mut bytes = records.concat();
+    bytes.truncate(bytes.len() - usize::from(law.breaks(Rule::WriteLastByte)));
+    bytes
+}
+
+fn wrong_numbers(mut plan: Plan, law: Law) -> Plan {
+    use_method(&mut plan, law, Rule::WriteMethod);
+    reverse(&mut plan, law, Rule::WriteReversed);
+    if law.breaks(Rule::WriteByPriority) {
+        plan.flows.sort_by_key(|flow| flow.priority);
+    }
+    for flow in &mut plan.flows {
+        if law.breaks(Rule::WriteIdPriority) {
+            swap(&mut flow.id, &mut flow.priority);
+        }
+        if law.breaks(Rule::WriteEnds) {
+            swap(&mut flow.source, &mut flow.destination);
+        }
+        if law.breaks(Rule::WriteDeadlineJitter) {
+            swap(&mut flow.deadline, &mut flow.jitter);
+        }
+        if law.breaks(Rule::WriteIdByte) {
+            flow.id %= 256;
+        }
+    }
+    plan
+}
+
+fn wrong_spelling(record: &mut [u8], law: Law) {
+    for field in fields_of(Number::from(record[0])) {
+        let little = match field.width {
+            2 => law.breaks(Rule::WriteLittleTwo),
+            4 => law.breaks(Rule::WriteLittleFour),
+            _ => false,
+        };
+        if little {
+            record[field.offset..field.offset + field.width].reverse();
+        }
+    }
+    if law.breaks(Rule::WriteLengthWhole) {
+        record[HEADER - 1] += HEADER as u8;
+    }
+    if law.breaks(Rule::WriteLittleLength) {
+        record[1..HEADER].reverse();
+    }
+}
