@@ -27,6 +27,8 @@ case "${1:-}" in
   "${emulator[@]}" "$witness" "$bounds" "$@"
   ;;
 *)
+  # In an emulator the program takes a twentieth of a second to start, and it is started for each plan.
+  if [ ${#emulator[@]} != 0 ] && [ $# = 0 ]; then set -- 4000; fi
   "${emulator[@]}" "$witness" "$bounds" --planted
   "${emulator[@]}" "$witness" "$bounds" "$@"
   ;;
