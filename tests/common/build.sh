@@ -1,13 +1,13 @@
 # Sourced by the tests: makes what they need of the product, and installs the tools that are missing.
 
-# install PACKAGE..
-install() {
-  apt-get update -q && apt-get install -qy --no-install-recommends "$@"
+# fetch PACKAGE..: Debian's, with options for apt-get before them
+fetch() {
+  apt-get update -q && apt-get install -qy "$@"
 }
 
 # need COMMAND: a Debian package of the same name has it
 need() {
-  command -v "$1" >/dev/null || install "$1"
+  command -v "$1" >/dev/null || fetch "$1"
 }
 
 # stale FILE: it is missing, or some file of the crates is newer
@@ -27,7 +27,7 @@ fi
 need_emulator() {
   if [ ${#emulator[@]} = 0 ] || { command -v qemu-x86_64 && [ -e /lib64/ld-linux-x86-64.so.2 ]; } >/dev/null; then return; fi
   dpkg --add-architecture amd64
-  install qemu-user libc6:amd64
+  fetch --no-install-recommends qemu-user libc6:amd64
 }
 
 need_compilers() {
@@ -38,7 +38,9 @@ need_compilers() {
     return
   fi
   need_emulator
-  [ -e /usr/lib/rustlib/x86_64-unknown-linux-gnu ] || install gcc-x86-64-linux-gnu g++-x86-64-linux-gnu rustc libstd-rust-dev:amd64
+  if [ ! -e /usr/lib/rustlib/x86_64-unknown-linux-gnu ]; then
+    fetch --no-install-recommends {gcc,g++}-x86-64-linux-gnu libc6-dev-amd64-cross rustc libstd-rust-dev:amd64
+  fi
 }
 
 # The libraries for C and Rust, and the program.
