@@ -119,8 +119,8 @@ struct lingfallow_plan {
  * and the end record, 12 + 23n bytes for n flows, at most LINGFALLOW_LONGEST_PLAN.
  *
  * Accepted: number is 0 and value is the plan's length. The first value bytes hold the plan; every further byte of the
- * buffer holds what it held before. lingfallow_analyse accepts these bytes, and of the same platform and the same flows
- * in the same order: method 0 stays 0.
+ * buffer holds what it held before. Read again, these bytes give the same platform and the same flows in the same order:
+ * method 0 stays 0.
  *
  * Refused: number and value are those that lingfallow_analyse gives for the bytes as they would have been written (5, 7,
  * 8 or 9 of the table above, at a place in those bytes); then 11 at 0, if length is below 12 + 23n. The whole buffer
