@@ -39,7 +39,7 @@ extern "C" {
 
 /* What a call returns. */
 struct lingfallow_returned {
-    uint8_t number; /* 0: accepted; 1 to 11: refused */
+    uint8_t number; /* 0: accepted; else refused, with a number of the table below */
     size_t value;   /* accepted: the length of what was written; refused: the place */
 };
 
@@ -56,16 +56,31 @@ struct lingfallow_returned {
  *        2  unknown tag                                                              the tag
  *        3  length is not the tag's                                                  the length
  *        4  first record isn't a platform, or a platform comes later                 the tag
- *        5  a field outside its values                                               that field
  *        6  a 65th flow                                                              its tag
  *        7  id equal to an earlier flow's                                            the id
  *        8  priority equal to an earlier flow's                                      the priority
  *        9  source equals destination                                                the destination
  *       10  a byte after the end record                                              that byte
  *       11  the reply buffer is too short: reply_length is below 16n + 3             0
+ *       20  columns outside 1..8                                                     the platform's columns
+ *       21  rows outside 1..8                                                        its rows
+ *       22  link cycles outside 1..16                                                its link cycles
+ *       23  routing cycles outside 0..16                                             its routing cycles
+ *       24  buffer flits outside 1..64                                               its buffer flits
+ *       25  method outside 0..3                                                      its method
+ *       30  id outside 0..65534                                                      the flow's id
+ *       31  priority outside 1..65535                                                its priority
+ *       32  source not below columns x rows                                          its source
+ *       33  destination not below columns x rows                                     its destination
+ *       34  flits outside 1..65535                                                   its flits
+ *       35  period outside 1..1,000,000,000                                          its period
+ *       36  deadline zero                                                            its deadline
+ *       37  jitter outside 0..1,000,000,000                                          its jitter
+ *       38  deadline above the period                                                its deadline
  *
- * Within a record they are looked for in the order 1 (the record's first 3 bytes), 2, 4, 3, 1 (its body), 6, 5 field
- * by field, 9, 7, 8. The first record in fault decides; then comes 10, then 11. No refusal is given otherwise.
+ * Within a record they are looked for in the order 1 (the record's first 3 bytes), 2, 4, 3, 1 (its body), 6, then field
+ * by field (20 to 25, or 30 to 36, 38, 37), 9, 7, 8. The first record in fault decides; then comes 10, then 11. No
+ * refusal is given otherwise.
  *
  * It asks nothing of the bytes and nothing of the two lengths: every input is accepted or refused as above. What it
  * returns and writes hangs on the plan's bytes and on reply_length alone. It always ends; its time grows with the
@@ -122,10 +137,10 @@ struct lingfallow_plan {
  * buffer holds what it held before. Read again, these bytes give the same platform and the same flows in the same order:
  * method 0 stays 0.
  *
- * Refused: number and value are those that lingfallow_analyse gives for the bytes as they would have been written (5, 7,
- * 8 or 9 of the table above, at a place in those bytes); then 11 at 0, if length is below 12 + 23n. The whole buffer
- * holds what it held before. A count above 64 says that there are flows which the array has no places for: number is 6
- * and value 1,481, the place of flow 65, unless the platform or one of the first 64 flows is in fault.
+ * Refused: number and value are those that lingfallow_analyse gives for the bytes as they would have been written (7, 8,
+ * 9 or 20 to 38 of the table above, at a place in those bytes); then 11 at 0, if length is below 12 + 23n. The whole
+ * buffer holds what it held before. A count above 64 says that there are flows which the array has no places for: number
+ * is 6 and value 1,481, the place of flow 65, unless the platform or one of the first 64 flows is in fault.
  *
  * It asks nothing of the numbers and nothing of the length. Of the pointer it asks that it points to length bytes that
  * may be written, and that nothing else writes to them during the call; of length 0 it may be null. The plan is passed

@@ -1,7 +1,7 @@
 #!/usr/bin/env python3
 """The plans that crates/cases reads, and what it must print of each: the outcome, the plan's values, the answers.
 
-A second analysis after document 01, by the authors of the first, with no code of it and other ways where there are any: routes are lists of node
+A second analysis after documents 01 and 02, by the authors of the first, with no code of it and other ways where there are any: routes are lists of node
 pairs, a side is told by all places and not by the first, and a bound is searched for number by number where that is short.
 
     tests/cases.py            compares crates/cases/data/plans and crates/cases/stdout with what it works out
@@ -54,7 +54,7 @@ def header(data, at, first, flows):
 def platform_of(body, at):
     limits = [(1, 8), (1, 8), (1, 16), (0, 16), (1, 64), (0, 3)]
     for k, (low, high) in enumerate(limits):
-        need(low <= body[k] <= high, 5, at + 3 + k)
+        need(low <= body[k] <= high, 20 + k, at + 3 + k)
     return list(body)
 
 
@@ -62,14 +62,15 @@ def flow_of(body, at, platform, flows):
     values = struct.unpack(FLOW_LAYOUT, body)
     ident, priority, source, destination, flits, period, deadline, jitter = values
     nodes = platform[0] * platform[1]
-    need(ident <= 65534, 5, at + 3)
-    need(priority >= 1, 5, at + 5)
-    need(source < nodes, 5, at + 7)
-    need(destination < nodes, 5, at + 8)
-    need(flits >= 1, 5, at + 9)
-    need(1 <= period <= BILLION, 5, at + 11)
-    need(1 <= deadline <= period, 5, at + 15)
-    need(jitter <= BILLION, 5, at + 19)
+    need(ident <= 65534, 30, at + 3)
+    need(priority >= 1, 31, at + 5)
+    need(source < nodes, 32, at + 7)
+    need(destination < nodes, 33, at + 8)
+    need(flits >= 1, 34, at + 9)
+    need(1 <= period <= BILLION, 35, at + 11)
+    need(deadline != 0, 36, at + 15)
+    need(deadline <= period, 38, at + 15)
+    need(jitter <= BILLION, 37, at + 19)
     need(source != destination, 9, at + 8)
     need(ident not in [f[0] for f in flows], 7, at + 3)
     need(priority not in [f[1] for f in flows], 8, at + 5)
@@ -351,16 +352,16 @@ def random_cases():
 def main():
     plans = [*framing_cases(), *field_cases(), *clash_cases(), *published_cases(), *busy_cases(), *random_cases()]
     lines = [line(data) for data in plans]
-    seen = {text.split()[0] for text in lines}
-    missing = {str(n) for n in range(11)} - seen
-    if missing:
-        sys.exit(f"cases: no plan for outcome {sorted(missing)}")
+    seen = {int(text.split()[0]) for text in lines}
+    outcomes = {*range(5), *range(6, 11), *range(20, 26), *range(30, 39)}
+    if seen != outcomes:
+        sys.exit(f"cases: no plan for outcome {sorted(outcomes - seen)}, or an outcome of no document: {sorted(seen - outcomes)}")
     files = {ROOT / "data" / "plans": b"".join(u(2, len(data)) + data for data in plans), ROOT / "stdout": "".join(lines).encode()}
     for path, content in files.items():
         if "--write" in sys.argv:
             path.write_bytes(content)
         elif not path.exists() or path.read_bytes() != content:
-            sys.exit(f"cases: {path} is not what document 01 gives")
+            sys.exit(f"cases: {path} is not what documents 01 and 02 give")
     print(f"cases: {len(plans)} plans, seed {SEED}")
 
 

@@ -112,7 +112,7 @@ int main(void) {
     expect(writes(3, P_LENGTH - 1, 11, 0, 0), "a buffer of 80 bytes is too short for P and stays as it was");
     expect(writes(3, P_LENGTH, 0, P_LENGTH, P_LENGTH), "a buffer of 81 bytes holds P; nothing behind it changes");
     expect(writes(3, WRITE_ROOM, 0, P_LENGTH, P_LENGTH), "a longer buffer keeps its further bytes");
-    expect(writes(4, WRITE_ROOM, 5, 83, 0), "a fourth flow of zeros has no priority, and the buffer stays as it was");
+    expect(writes(4, WRITE_ROOM, 31, 83, 0), "a fourth flow of zeros has no priority, and the buffer stays as it was");
     numbers.count = 3;
     expect(null_written(), "a null pointer of length 0 is a buffer that is too short for a plan");
     size_t analysing = stack_used(analyse_p), writing = stack_used(write_p);

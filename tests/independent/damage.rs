@@ -31,7 +31,7 @@ const DAMAGES: [Damage; 15] = [
     faults_in_one_flow,
 ];
 
-/// The bytes to try next: half of them good plans.
+/// The bytes that chance makes: half of them good plans.
 pub fn some_bytes(random: &mut Random) -> Vec<u8> {
     match random.below(1000) {
         0..=499 => good_plan(random).records().concat(),
@@ -81,7 +81,7 @@ fn number_in(record: &[u8], offset: usize, width: usize) -> Number {
     part.iter().fold(0, |sum, byte| 256 * sum + Number::from(*byte))
 }
 
-fn nodes_in(records: &Records) -> Number {
+pub fn nodes_in(records: &Records) -> Number {
     number_in(&records[0], COLUMNS, 1) * number_in(&records[0], ROWS, 1)
 }
 
@@ -109,6 +109,14 @@ fn any_value(field: &Field, _high: Number, random: &mut Random) -> Number {
     number_in(&random.bytes(field.width), 0, field.width)
 }
 
+fn high_of(field: &Field, record: &[u8], nodes: Number) -> Number {
+    match field.high {
+        High::Fixed(value) => value,
+        High::LastNode => nodes - 1,
+        High::Period => number_in(record, PERIOD, 4),
+    }
+}
+
 /// A longer one could bring so many rounds that a run takes minutes.
 const LONGEST_DEADLINE: Number = 10_000_000;
 
@@ -118,16 +126,37 @@ fn field_in(choice: Choice, record: &mut [u8], nodes: Number, random: &mut Rando
         return;
     }
     let field = &fields[random.below(fields.len())];
-    let high = match field.high {
-        High::Fixed(value) => value,
-        High::LastNode => nodes - 1,
-        High::Period => number_in(record, PERIOD, 4),
-    };
+    let high = high_of(field, record, nodes);
     let mut value = choice(field, high, random);
     if matches!(field.high, High::Period) && value <= high && value > LONGEST_DEADLINE {
         value = high + 1;
     }
     put(record, field.offset, &bytes_of(value, field.width));
+}
+
+/// A field to a value with this refusal, and so many further fields behind it, if there are, outside their values too.
+pub fn refuse(number: u8, further: usize, record: &mut [u8], nodes: Number, random: &mut Random) {
+    let fields = fields_of(Number::from(record[0])).iter().skip_while(|field| !field.refusals().contains(&number));
+    for (place, field) in fields.take(1 + further).enumerate() {
+        let wanted = if place == 0 { [number; 2] } else { field.refusals() };
+        let value = outside(field, high_of(field, record, nodes), wanted, random);
+        put(record, field.offset, &bytes_of(value, field.width));
+    }
+}
+
+/// A value with one of these refusals: the nearest to the allowed ones, the furthest, or any.
+fn outside(field: &Field, high: Number, wanted: [u8; 2], random: &mut Random) -> Number {
+    let sides = [(field.below, field.low - 1, 0), (field.above, high + 1, field.greatest())];
+    let mut possible: Vec<(Number, Number)> = Vec::new();
+    for (number, nearest, furthest) in sides {
+        // No number is below zero, and none greater than the field's bytes can hold.
+        if wanted.contains(&number) && (0..=field.greatest()).contains(&nearest) {
+            possible.push((nearest, furthest));
+        }
+    }
+    let (nearest, furthest) = random.pick(&possible);
+    let any = random.between(nearest.min(furthest), nearest.max(furthest));
+    random.pick(&[nearest, nearest, furthest, any])
 }
 
 fn cut_anywhere(records: &mut Records, random: &mut Random) {

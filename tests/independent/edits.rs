@@ -14,6 +14,7 @@ const EDITS: [Damage; 5] =
 /// So many flows behind the 64th are made up at most: the first of them is refused.
 const MOST_FURTHER: usize = 3;
 
+/// The numbers that chance makes.
 pub fn some_writing(random: &mut Random) -> Writing {
     let (plan, count) = some_numbers(random);
     let edits = random.pick(&[0, 0, 0, 0, 1, 1, 1, 2, 2, 3]);

@@ -1,15 +1,18 @@
-//! The fixed list: plan P with its reply and text, and every row of "Figures to meet", typed from document 01.
+//! The fixed list: plan P with its reply and text, every row of "Figures to meet", typed from document 01, and every
+//! refusal of a field, typed from L2 of document 02.
 
 use crate::answer::Expected;
 use crate::compare::Trial;
 use crate::disagreement::{agree, hex, Disagreement};
+use crate::edits::writing_of;
 use crate::law::Law;
 use crate::model::{Flow, Plan, Platform};
 use crate::product::{call_library, Lent};
 use crate::random::Random;
+use crate::reading::plan_at;
 use crate::rules::Analysis;
 use crate::tally::Tally;
-use crate::written::give_back;
+use crate::written::{self, give_back};
 
 const P: &str = "01 0006 06 01 01 00 0A 03
     02 0014 0002 0001 04 05 003C 000000C8 000000C8 00000000
@@ -28,12 +31,14 @@ const P_TEXT: &str = "mesh 6x1 link 1 route 0 buffer 10 method 3
 5 bounded 396 rounds 2
 ";
 
-/// Places in P: of the platform's fields, and of the fields of its three flows.
+/// Places in P: of its records, of the platform's fields, and of a flow's fields in its record.
+const PLATFORM: usize = 0;
 const BUFFER: usize = 7;
 const METHOD: usize = 8;
 const FLOW_2: usize = 9;
 const FLOW_3: usize = 32;
 const FLOW_5: usize = 55;
+const FLOWS: usize = 3;
 const END: usize = 78;
 const SOURCE: usize = 7;
 const PERIOD: usize = 11;
@@ -59,7 +64,38 @@ const ROWS: &[Row] = &[
     (&[(FLOW_2 + SOURCE, &[0, 1]), (METHOD, &[1])], &["5 bounded 336 rounds 2"]),
     (&[(FLOW_2 + SOURCE, &[0, 1]), (METHOD, &[2])], &["5 bounded 336 rounds 2"]),
     (&[(FLOW_2 + SOURCE, &[0, 1]), (METHOD, &[3])], &["5 bounded 336 rounds 2"]),
-    (&[(BUFFER, &[65])], &["refused 5 at 7"]),
+    (&[(BUFFER, &[65])], &["refused 24 at 7"]),
+];
+
+/// A field outside its values: its offset in the record, its bytes, and the refusal.
+type Outside = (usize, &'static [u8], u8);
+
+const PLATFORM_OUTSIDE: &[Outside] = &[
+    (3, &[0], 20),
+    (3, &[9], 20),
+    (4, &[0], 21),
+    (4, &[9], 21),
+    (5, &[0], 22),
+    (5, &[17], 22),
+    (6, &[17], 23),
+    (7, &[0], 24),
+    (7, &[65], 24),
+    (8, &[4], 25),
+];
+
+/// P has six nodes; 6,001 is above the period of each of its flows, and just above the third's.
+const FLOW_OUTSIDE: &[Outside] = &[
+    (3, &[0xFF, 0xFF], 30),
+    (5, &[0, 0], 31),
+    (7, &[6], 32),
+    (8, &[6], 33),
+    (9, &[0, 0], 34),
+    (11, &[0, 0, 0, 0], 35),
+    (11, &[0x3B, 0x9A, 0xCA, 0x01], 35),
+    (15, &[0, 0, 0, 0], 36),
+    (19, &[0x3B, 0x9A, 0xCA, 0x01], 37),
+    (15, &[0, 0, 0x17, 0x71], 38),
+    (15, &[0xFF, 0xFF, 0xFF, 0xFF], 38),
 ];
 
 pub fn from_hex(text: &str) -> Option<Vec<u8>> {
@@ -71,6 +107,15 @@ pub fn from_hex(text: &str) -> Option<Vec<u8>> {
 
 fn typed(text: &str) -> Vec<u8> {
     from_hex(text).expect("the document's bytes are typed in hex")
+}
+
+/// P with these bytes at these places.
+fn p_with(changes: &[(usize, &[u8])]) -> Vec<u8> {
+    let mut bytes = typed(P);
+    for (place, new) in changes {
+        bytes[*place..place + new.len()].copy_from_slice(new);
+    }
+    bytes
 }
 
 /// What the document says against what this program expects; the product is held to the latter.
@@ -104,14 +149,34 @@ impl Fixed<'_> {
     }
 
     fn row(&mut self, row: &Row) -> Result<(), Disagreement> {
-        let mut bytes = typed(P);
-        for (place, new) in row.0 {
-            bytes[*place..place + new.len()].copy_from_slice(new);
-        }
+        let bytes = p_with(row.0);
         let text = self.agree(&bytes)?.text;
         for line in row.1 {
             let found = text.lines().find(|printed| printed == line);
             figure(&bytes, "a row", line.to_string(), found.unwrap_or(&text).to_string())?;
+        }
+        Ok(())
+    }
+
+    /// Read or written, the field is refused where it stands: at its record's start in P and its offset.
+    fn outside(&mut self, record: usize, (offset, new, number): Outside) -> Result<(), Disagreement> {
+        let place = record + offset;
+        let bytes = p_with(&[(place, new)]);
+        let text = self.agree(&bytes)?.text;
+        figure(&bytes, "a field outside its values", format!("refused {number} at {place}\n"), text)?;
+        let mut random = Random::of_writing(0, self.plans as u64);
+        let writing = writing_of(plan_at(&bytes, FLOWS), FLOWS, &mut random);
+        written::compare(&writing, Law::WHOLE, &mut random, self.tally)
+    }
+
+    fn fields_outside(&mut self) -> Result<(), Disagreement> {
+        for field in PLATFORM_OUTSIDE {
+            self.outside(PLATFORM, *field)?;
+        }
+        for record in [FLOW_2, FLOW_3, FLOW_5] {
+            for field in FLOW_OUTSIDE {
+                self.outside(record, *field)?;
+            }
         }
         Ok(())
     }
@@ -188,6 +253,7 @@ pub fn check(program: &str, tally: &mut Tally) -> Result<usize, Disagreement> {
     for row in ROWS {
         fixed.row(row)?;
     }
+    fixed.fields_outside()?;
     fixed.shorter_plans()?;
     fixed.many_rounds()?;
     Ok(fixed.plans)

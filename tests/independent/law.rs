@@ -1,7 +1,9 @@
-//! The law is document 01, and for writing L1 of document 02; a planted fault breaks one rule of it on the expected
-//! side, so that a run must fail.
+//! The law is document 01 with the fields' refusals of L2 of document 02, and for writing L1; a planted fault breaks one
+//! rule of it on the expected side, so that a run must fail.
 
-use crate::model::{High, Number, FLOW_FIELDS, PLATFORM_FIELDS};
+use crate::model::{all_fields, field_refusals, High, Number, FLOW_FIELDS, PLATFORM_FIELDS};
+use crate::reading::{Check, CHECKS};
+use std::collections::BTreeSet;
 
 macro_rules! rules {
     ($([$list:ident] $($rule:ident $name:literal $words:literal;)*)*) => {
@@ -80,6 +82,15 @@ rules! {
     TextNoLastLf "text-no-last-lf" "the last line has no LF";
     TextLateBare "text-late-bare" "a late line without its rounds";
 
+    [NUMBERING]
+    FieldsAsBefore "fields-as-before" "every field outside its values is refused 5, as before L2";
+    PlatformFromThirty "platform-from-30" "the platform's fields are numbered from 30, as the flow's are";
+    FlowFromTwenty "flow-from-20" "the flow's fields are numbered from 20, as the platform's are";
+    DeadlineSwapped "deadline-swapped" "a deadline of zero is refused 38, one above its period 36";
+    DeadlineAlwaysZero "deadline-always-36" "a deadline above its period is refused 36 too";
+    DeadlineAlwaysAbove "deadline-always-38" "a deadline of zero is refused 38 too";
+    JitterLast "jitter-last" "a deadline above its period is refused 37, a jitter 38";
+
     [WRITING]
     WriteIdPriority "write-id-priority" "id and priority are written in each other's place";
     WriteEnds "write-ends" "source and destination are written in each other's place";
@@ -125,28 +136,43 @@ pub enum Plant {
     Rule(Rule),
     /// Two neighbours in the order within a record change places.
     Order(usize),
+    /// Two neighbouring fields do, in the order field by field.
+    FieldOrder(&'static str, &'static str),
     /// The place of a refusal is one more than it is.
     Place(u8),
     /// A refusal is not given.
     Never(u8),
+    /// The number of a field's refusals is one more than it is.
+    Number(&'static str),
     /// An edge of a field's values lies one lower or higher.
     Edge(&'static str, End, Number),
 }
 
-/// The numbers in the order of the checks within a record.
-pub const ORDER: [u8; 10] = [1, 2, 4, 3, 1, 6, 5, 9, 7, 8];
+/// All refusals: those within a record, then a byte after the end record and a reply buffer that is too short.
+pub fn refusals() -> BTreeSet<u8> {
+    CHECKS.iter().flat_map(Check::refusals).chain([10, 11]).collect()
+}
 
 /// The refusals of a writing: the headers of written bytes are right, and nothing comes after their end record.
-pub const OF_WRITING: [u8; 6] = [5, 6, 7, 8, 9, 11];
+pub fn refusals_of_writing() -> BTreeSet<u8> {
+    field_refusals().into_iter().chain([6, 7, 8, 9, 11]).collect()
+}
+
+fn is_in(rules: &[(Rule, &str, &str)], rule: Rule) -> bool {
+    rules.iter().any(|(listed, _, _)| *listed == rule)
+}
 
 impl Plant {
     /// Whether a fault of analysing can be seen from written bytes too.
     fn shows_in_writing(&self) -> bool {
         match self {
-            Plant::Rule(rule) => matches!(rule, Rule::FieldsBackwards | Rule::LastRecord | Rule::ReplyByPriority),
-            Plant::Order(first) => ORDER[*first..first + 2].iter().all(|number| OF_WRITING.contains(number)),
-            Plant::Place(number) | Plant::Never(number) => OF_WRITING.contains(number),
-            Plant::Edge(..) => true,
+            Plant::Rule(Rule::FieldsBackwards | Rule::LastRecord | Rule::ReplyByPriority) => true,
+            Plant::Rule(rule) => is_in(NUMBERING, *rule),
+            Plant::Order(first) => {
+                CHECKS[*first..first + 2].iter().all(|check| check.refusals().is_subset(&refusals_of_writing()))
+            }
+            Plant::Place(number) | Plant::Never(number) => refusals_of_writing().contains(number),
+            Plant::FieldOrder(..) | Plant::Number(_) | Plant::Edge(..) => true,
         }
     }
 }
@@ -188,12 +214,45 @@ impl Law {
         }
     }
 
+    /// A field's rank in the order field by field, given its place in the record.
+    pub fn field_rank(&self, place: usize, name: &str) -> usize {
+        match self.planted {
+            Some(Plant::Rule(Rule::FieldsBackwards)) => usize::MAX - place,
+            Some(Plant::FieldOrder(before, _)) if name == before => place + 1,
+            Some(Plant::FieldOrder(_, behind)) if name == behind => place - 1,
+            _ => place,
+        }
+    }
+
+    /// The number of a field's refusal, given the right one.
+    pub fn number(&self, name: &str, right: u8) -> u8 {
+        match self.planted {
+            Some(Plant::Number(field)) if field == name => right + 1,
+            Some(Plant::Rule(rule)) => misnumbered(rule, right),
+            _ => right,
+        }
+    }
+
     pub fn edges(&self, name: &str, low: Number, high: Number) -> (Number, Number) {
         match self.planted {
             Some(Plant::Edge(field, End::Low, by)) if field == name => (low + by, high),
             Some(Plant::Edge(field, End::High, by)) if field == name => (low, high + by),
             _ => (low, high),
         }
+    }
+}
+
+/// A field's refusal by the wrong numberings, given the right one.
+fn misnumbered(rule: Rule, right: u8) -> u8 {
+    match (rule, right) {
+        (Rule::FieldsAsBefore, _) => 5,
+        (Rule::PlatformFromThirty, 20..=25) => right + 10,
+        (Rule::FlowFromTwenty, 30..=38) => right - 10,
+        (Rule::DeadlineSwapped | Rule::DeadlineAlwaysAbove, 36) => 38,
+        (Rule::DeadlineSwapped | Rule::DeadlineAlwaysZero, 38) => 36,
+        (Rule::JitterLast, 37) => 38,
+        (Rule::JitterLast, 38) => 37,
+        _ => right,
     }
 }
 
@@ -236,26 +295,43 @@ fn rule_plants(rules: &'static [(Rule, &str, &str)]) -> impl Iterator<Item = Nam
 }
 
 fn analysing_plants() -> Vec<Named> {
-    let orders = (0..ORDER.len() - 1).map(order_plant);
-    let places = (1..=11).map(|number| {
+    let rules = rule_plants(ANALYSING).chain(rule_plants(NUMBERING));
+    let orders = (0..CHECKS.len() - 1).map(order_plant).chain(field_order_plants());
+    let places = refusals().into_iter().map(|number| {
         (Plant::Place(number), format!("place-{number}"), format!("refusal {number} stands one byte later"))
     });
     let nevers = (6..=10)
+        .chain(field_refusals())
         .map(|number| (Plant::Never(number), format!("never-{number}"), format!("refusal {number} is not given")));
-    rule_plants(ANALYSING).chain(orders).chain(places).chain(nevers).chain(edge_plants()).collect()
+    rules.chain(orders).chain(places).chain(nevers).chain(number_plants()).chain(edge_plants()).collect()
 }
 
 fn order_plant(first: usize) -> Named {
-    let (before, behind) = (ORDER[first], ORDER[first + 1]);
+    let (before, behind) = (CHECKS[first].name(), CHECKS[first + 1].name());
     let words = format!("within a record {behind} comes before {before}");
     (Plant::Order(first), format!("swap-{before}-{behind}"), words)
 }
 
+fn field_order_plants() -> impl Iterator<Item = Named> {
+    let pairs = PLATFORM_FIELDS.windows(2).chain(FLOW_FIELDS.windows(2));
+    pairs.map(|pair| {
+        let (before, behind) = (pair[0].name, pair[1].name);
+        let words = format!("field by field the {behind} comes before the {before}");
+        (Plant::FieldOrder(before, behind), format!("swap-{before}-{behind}"), words)
+    })
+}
+
+fn number_plants() -> impl Iterator<Item = Named> {
+    all_fields().map(|field| {
+        let (name, words) = (format!("number-{}", field.name), format!("{}: its number is one more", field.name));
+        (Plant::Number(field.name), name, words)
+    })
+}
+
 fn edge_plants() -> Vec<Named> {
     let mut plants = Vec::new();
-    for field in PLATFORM_FIELDS.iter().chain(FLOW_FIELDS.iter()) {
-        let greatest: Number = (1 << (8 * field.width)) - 1;
-        let high_fills = matches!(field.high, High::Fixed(high) if high == greatest);
+    for field in all_fields() {
+        let high_fills = matches!(field.high, High::Fixed(high) if high == field.greatest());
         for (end, by, words) in [
             (End::Low, -1, "one below the lowest is allowed"),
             (End::Low, 1, "the lowest is not allowed"),

@@ -1,4 +1,6 @@
-//! A plan in document 01's words, the table of its fields, and its bytes.
+//! A plan in document 01's words, the table of its fields, and its bytes. The fields' refusals are those of request L2.
+
+use std::collections::BTreeSet;
 
 /// Wide enough that no sum of this program can leave it.
 pub type Number = i128;
@@ -51,10 +53,25 @@ pub struct Field {
     pub width: usize,
     pub low: Number,
     pub high: High,
+    /// The refusal of a value below the lowest, and that of one above the highest.
+    pub below: u8,
+    pub above: u8,
 }
 
-const fn field(name: &'static str, offset: usize, width: usize, low: Number, high: High) -> Field {
-    Field { name, offset, width, low, high }
+const fn field(number: u8, name: &'static str, offset: usize, width: usize, low: Number, high: High) -> Field {
+    Field { name, offset, width, low, high, below: number, above: number }
+}
+
+impl Field {
+    /// The greatest number that its bytes can hold.
+    pub fn greatest(&self) -> Number {
+        (1 << (8 * self.width)) - 1
+    }
+
+    /// The same twice but for the deadline.
+    pub fn refusals(&self) -> [u8; 2] {
+        [self.below, self.above]
+    }
 }
 
 pub const BILLION: Number = 1_000_000_000;
@@ -68,24 +85,39 @@ pub const DESTINATION: usize = 8;
 pub const PERIOD: usize = 11;
 
 pub const PLATFORM_FIELDS: [Field; 6] = [
-    field("columns", COLUMNS, 1, 1, High::Fixed(8)),
-    field("rows", ROWS, 1, 1, High::Fixed(8)),
-    field("link", 5, 1, 1, High::Fixed(16)),
-    field("routing", 6, 1, 0, High::Fixed(16)),
-    field("buffer", 7, 1, 1, High::Fixed(64)),
-    field("method", METHOD, 1, 0, High::Fixed(3)),
+    field(20, "columns", COLUMNS, 1, 1, High::Fixed(8)),
+    field(21, "rows", ROWS, 1, 1, High::Fixed(8)),
+    field(22, "link", 5, 1, 1, High::Fixed(16)),
+    field(23, "routing", 6, 1, 0, High::Fixed(16)),
+    field(24, "buffer", 7, 1, 1, High::Fixed(64)),
+    field(25, "method", METHOD, 1, 0, High::Fixed(3)),
 ];
 
 pub const FLOW_FIELDS: [Field; 8] = [
-    field("id", ID, 2, 0, High::Fixed(65_534)),
-    field("priority", PRIORITY, 2, 1, High::Fixed(65_535)),
-    field("source", SOURCE, 1, 0, High::LastNode),
-    field("destination", DESTINATION, 1, 0, High::LastNode),
-    field("flits", 9, 2, 1, High::Fixed(65_535)),
-    field("period", PERIOD, 4, 1, High::Fixed(BILLION)),
-    field("deadline", 15, 4, 1, High::Period),
-    field("jitter", 19, 4, 0, High::Fixed(BILLION)),
+    field(30, "id", ID, 2, 0, High::Fixed(65_534)),
+    field(31, "priority", PRIORITY, 2, 1, High::Fixed(65_535)),
+    field(32, "source", SOURCE, 1, 0, High::LastNode),
+    field(33, "destination", DESTINATION, 1, 0, High::LastNode),
+    field(34, "flits", 9, 2, 1, High::Fixed(65_535)),
+    field(35, "period", PERIOD, 4, 1, High::Fixed(BILLION)),
+    // Zero is an unfilled cell, above the period a planning error.
+    Field { above: 38, ..field(36, "deadline", 15, 4, 1, High::Period) },
+    field(37, "jitter", 19, 4, 0, High::Fixed(BILLION)),
 ];
+
+pub fn all_fields() -> impl Iterator<Item = &'static Field> {
+    PLATFORM_FIELDS.iter().chain(&FLOW_FIELDS)
+}
+
+/// The refusals of fields outside their values.
+pub fn field_refusals() -> BTreeSet<u8> {
+    all_fields().flat_map(Field::refusals).collect()
+}
+
+/// Whether a flow's field has this refusal.
+pub fn is_of_flow(number: u8) -> bool {
+    FLOW_FIELDS.iter().any(|field| field.refusals().contains(&number))
+}
 
 /// The fields of a record by its tag; the end record and unknown ones have none.
 pub fn fields_of(tag: Number) -> &'static [Field] {

@@ -1,8 +1,9 @@
 //! The verdict on a plan's bytes. All faults of all records are gathered with their keys, and the least key decides.
 //! A record can be reached only when those before it are faultless, so its start follows from its index alone.
 
-use crate::law::{Law, Rule, ORDER};
+use crate::law::{Law, Rule};
 use crate::model::*;
+use std::collections::BTreeSet;
 
 #[derive(Clone, Copy, Debug, PartialEq, Eq)]
 pub struct Refusal {
@@ -20,29 +21,60 @@ struct Fault {
     place: usize,
 }
 
-struct Record<'a> {
+pub struct Record<'a> {
     bytes: &'a [u8],
     index: usize,
     start: usize,
     law: Law,
 }
 
-/// A fault of a check: the field's number where there are several, and the place in the record.
-type Found = (usize, usize);
+/// What is looked for at one rank of the order within a record.
+pub enum Check {
+    /// A refusal, and the place in the record if it is in fault.
+    Refusal(u8, fn(&Record) -> Option<usize>),
+    /// Field by field, each with refusals of its own.
+    Fields,
+}
 
-/// In the order within a record; the numbers stand in `ORDER`.
-const CHECKS: [fn(&Record) -> Vec<Found>; 10] = [
-    header_cut,
-    tag_unknown,
-    platform_misplaced,
-    length_wrong,
-    body_cut,
-    flow_too_many,
-    fields_outside,
-    ends_equal,
-    id_repeated,
-    priority_repeated,
+/// A fault that a check has found: the field's rank where there are several, the number, and the place in the record.
+type Found = (usize, u8, usize);
+
+/// In the order within a record.
+pub const CHECKS: [Check; 10] = [
+    Check::Refusal(1, header_cut),
+    Check::Refusal(2, tag_unknown),
+    Check::Refusal(4, platform_misplaced),
+    Check::Refusal(3, length_wrong),
+    Check::Refusal(1, body_cut),
+    Check::Refusal(6, flow_too_many),
+    Check::Fields,
+    Check::Refusal(9, ends_equal),
+    Check::Refusal(7, id_repeated),
+    Check::Refusal(8, priority_repeated),
 ];
+
+impl Check {
+    pub fn name(&self) -> String {
+        match self {
+            Check::Refusal(number, _) => number.to_string(),
+            Check::Fields => "fields".to_string(),
+        }
+    }
+
+    pub fn refusals(&self) -> BTreeSet<u8> {
+        match self {
+            Check::Refusal(number, _) => BTreeSet::from([*number]),
+            Check::Fields => field_refusals(),
+        }
+    }
+
+    fn found_in(&self, record: &Record) -> Vec<Found> {
+        match self {
+            Check::Refusal(number, place_in) => place_in(record).map(|place| (0, *number, place)).into_iter().collect(),
+            Check::Fields => fields_outside(record),
+        }
+    }
+}
 
 pub const MOST_FLOWS: usize = 64;
 
@@ -83,14 +115,16 @@ impl<'a> Record<'a> {
         }
     }
 
-    fn is_outside(&self, field: &Field) -> bool {
-        match (self.number(field.offset, field.width), self.high(field.high)) {
-            (Some(value), Some(high)) => {
-                let (low, high) = self.law.edges(field.name, field.low, high);
-                value < low || value > high
-            }
-            _ => false,
-        }
+    /// The refusal of a field outside its values.
+    fn refusal_of(&self, field: &Field) -> Option<u8> {
+        let (value, high) = (self.number(field.offset, field.width)?, self.high(field.high)?);
+        let (low, high) = self.law.edges(field.name, field.low, high);
+        let number = match value {
+            _ if value < low => Some(field.below),
+            _ if value > high => Some(field.above),
+            _ => None,
+        };
+        number.map(|number| self.law.number(field.name, number))
     }
 
     /// Whether an earlier flow has the same value at this offset.
@@ -101,83 +135,66 @@ impl<'a> Record<'a> {
     }
 }
 
-fn when(condition: bool, place: usize) -> Vec<Found> {
-    if condition {
-        vec![(0, place)]
-    } else {
-        Vec::new()
-    }
-}
-
 /// Refusal 1 stands at the record's start.
-fn cut(record: &Record, condition: bool) -> Vec<Found> {
+fn cut(record: &Record, condition: bool) -> Option<usize> {
     let rest = record.bytes.len().saturating_sub(record.start);
-    when(condition, if record.law.breaks(Rule::CutAtEnd) { rest } else { 0 })
+    condition.then_some(if record.law.breaks(Rule::CutAtEnd) { rest } else { 0 })
 }
 
-fn header_cut(record: &Record) -> Vec<Found> {
+fn header_cut(record: &Record) -> Option<usize> {
     cut(record, record.bytes.len() < record.start + HEADER)
 }
 
-fn tag_unknown(record: &Record) -> Vec<Found> {
-    when(matches!(record.tag(), Some(tag) if length_of(tag).is_none()), 0)
+fn tag_unknown(record: &Record) -> Option<usize> {
+    matches!(record.tag(), Some(tag) if length_of(tag).is_none()).then_some(0)
 }
 
-fn platform_misplaced(record: &Record) -> Vec<Found> {
-    when(record.tag().is_some() && record.is(PLATFORM_TAG) != (record.index == 0), 0)
+fn platform_misplaced(record: &Record) -> Option<usize> {
+    (record.tag().is_some() && record.is(PLATFORM_TAG) != (record.index == 0)).then_some(0)
 }
 
-fn length_wrong(record: &Record) -> Vec<Found> {
+fn length_wrong(record: &Record) -> Option<usize> {
     let right = record.tag().and_then(length_of);
     let said = record.number(1, 2);
-    when(right.is_some() && said.is_some() && said != right, 1)
+    (right.is_some() && said.is_some() && said != right).then_some(1)
 }
 
-fn body_cut(record: &Record) -> Vec<Found> {
+fn body_cut(record: &Record) -> Option<usize> {
     let end = |length: Number| (record.start + HEADER) as Number + length;
     cut(record, matches!(record.number(1, 2), Some(length) if end(length) > record.bytes.len() as Number))
 }
 
-fn flow_too_many(record: &Record) -> Vec<Found> {
-    when(record.is(FLOW_TAG) && record.index > MOST_FLOWS, 0)
+fn flow_too_many(record: &Record) -> Option<usize> {
+    (record.is(FLOW_TAG) && record.index > MOST_FLOWS).then_some(0)
 }
 
 fn fields_outside(record: &Record) -> Vec<Found> {
-    let fields = record.tag().map_or(&[][..], fields_of);
-    let outside = fields.iter().enumerate().filter(|(_, field)| record.is_outside(field));
-    outside.map(|(number, field)| (number, field.offset)).collect()
+    let fields = record.tag().map_or(&[][..], fields_of).iter().enumerate();
+    let rank = |place, field: &Field| record.law.field_rank(place, field.name);
+    fields.filter_map(|(place, field)| Some((rank(place, field), record.refusal_of(field)?, field.offset))).collect()
 }
 
-fn ends_equal(record: &Record) -> Vec<Found> {
+fn ends_equal(record: &Record) -> Option<usize> {
     let destination = record.number(DESTINATION, 1);
-    when(record.is(FLOW_TAG) && destination.is_some() && record.number(SOURCE, 1) == destination, DESTINATION)
+    let equal = record.is(FLOW_TAG) && destination.is_some() && record.number(SOURCE, 1) == destination;
+    equal.then_some(DESTINATION)
 }
 
-fn id_repeated(record: &Record) -> Vec<Found> {
-    when(record.repeats(ID), ID)
+fn id_repeated(record: &Record) -> Option<usize> {
+    record.repeats(ID).then_some(ID)
 }
 
-fn priority_repeated(record: &Record) -> Vec<Found> {
-    when(record.repeats(PRIORITY), PRIORITY)
-}
-
-/// Rather the last field than the first, for a planted fault.
-fn field_key(law: Law, field: usize) -> usize {
-    if law.breaks(Rule::FieldsBackwards) {
-        usize::MAX - field
-    } else {
-        field
-    }
+fn priority_repeated(record: &Record) -> Option<usize> {
+    record.repeats(PRIORITY).then_some(PRIORITY)
 }
 
 fn faults_of(record: &Record) -> Vec<Fault> {
     let law = record.law;
     let mut faults = Vec::new();
-    for (check, found_by) in CHECKS.iter().enumerate().filter(|(check, _)| !law.never(ORDER[*check])) {
-        for (field, offset) in found_by(record) {
-            let place = law.place(ORDER[check], record.start + offset);
-            let (rank, field) = (law.rank(check), field_key(law, field));
-            faults.push(Fault { record: record.index, rank, field, number: ORDER[check], place });
+    for (rank, check) in CHECKS.iter().enumerate() {
+        for (field, number, offset) in check.found_in(record).into_iter().filter(|(_, number, _)| !law.never(*number)) {
+            let place = law.place(number, record.start + offset);
+            faults.push(Fault { record: record.index, rank: law.rank(rank), field, number, place });
         }
     }
     faults

@@ -1,16 +1,54 @@
-//! What a run has seen. A test that cannot see a case is no test, so a run of the default size demands all of them.
+//! What a run has seen. A test that cannot see a case is no test, so a run of the tests' size demands all of them.
 
 use crate::answer::{Accepted, Expected};
-use crate::law::OF_WRITING;
-use crate::model::Number;
+use crate::law::{refusals, refusals_of_writing};
+use crate::model::{is_of_flow, Number};
+use crate::product::Returned;
+use crate::reading::start_of;
 use crate::rules::Verdict;
-use std::collections::BTreeSet;
+use std::collections::{BTreeMap, BTreeSet};
+
+/// How often each number was met, and at which places.
+#[derive(Default)]
+struct Met {
+    times: BTreeMap<u8, usize>,
+    places: BTreeSet<(u8, usize)>,
+}
+
+impl Met {
+    fn add(&mut self, number: u8, place: usize) {
+        *self.times.entry(number).or_default() += 1;
+        self.places.insert((number, place));
+    }
+
+    fn times(&self, number: u8) -> usize {
+        self.times.get(&number).copied().unwrap_or(0)
+    }
+
+    /// Whether a refusal was met in the first flow, or else in a later one.
+    fn in_flow(&self, number: u8, first: bool) -> bool {
+        self.places.iter().any(|(met, place)| *met == number && (*place < start_of(2)) == first)
+    }
+
+    /// A case for each of these refusals, two more for each of a flow's fields, and whether they were met.
+    fn cases(&self, numbers: BTreeSet<u8>, words: &str) -> Vec<(String, bool)> {
+        let mut cases = Vec::new();
+        for number in numbers {
+            cases.push((format!("refusal {number}{words}"), self.times(number) > 0));
+            if is_of_flow(number) {
+                cases.push((format!("refusal {number}{words} in the first flow"), self.in_flow(number, true)));
+                cases.push((format!("refusal {number}{words} in a later flow"), self.in_flow(number, false)));
+            }
+        }
+        cases
+    }
+}
 
 #[derive(Default)]
 pub struct Tally {
     accepted: usize,
-    /// By number; 11 is counted by calls, since it needs an acceptable plan.
-    refused: [usize; 12],
+    /// Plans, but 11 is counted by calls, since it needs an acceptable plan.
+    refused: Met,
     calls: usize,
     bounded: usize,
     late: usize,
@@ -22,8 +60,8 @@ pub struct Tally {
     downstream: usize,
     most_rounds: Number,
     most_rounds_bounded: Number,
-    /// Calls of the writer, by the number returned.
-    written: [usize; 12],
+    /// Calls of the writer, by the number and the value returned.
+    written: Met,
     given_back: usize,
     written_counts: BTreeSet<usize>,
     meshes: BTreeSet<(Number, Number)>,
@@ -34,12 +72,14 @@ pub struct Tally {
 impl Tally {
     pub fn called(&mut self, number: u8) {
         self.calls += 1;
-        self.refused[11] += usize::from(number == 11);
+        if number == 11 {
+            self.refused.add(number, 0);
+        }
     }
 
-    pub fn wrote(&mut self, number: u8, flows: usize) {
-        self.written[usize::from(number)] += 1;
-        if number == 0 {
+    pub fn wrote(&mut self, returned: &Returned, flows: usize) {
+        self.written.add(returned.number, returned.value);
+        if returned.number == 0 {
             self.written_counts.insert(flows);
         }
     }
@@ -52,7 +92,7 @@ impl Tally {
     pub fn count(&mut self, expected: &Expected) {
         match &expected.answer {
             Ok(accepted) => self.count_accepted(accepted),
-            Err(refusal) => self.refused[usize::from(refusal.number)] += 1,
+            Err(refusal) => self.refused.add(refusal.number, refusal.place),
         }
     }
 
@@ -89,10 +129,10 @@ impl Tally {
 
     pub fn print(&self) {
         println!("plans accepted: {}", self.accepted);
-        for number in 1..=10 {
-            println!("plans refused {number}: {}", self.refused[number]);
+        for number in refusals().into_iter().filter(|number| *number != 11) {
+            println!("plans refused {number}: {}", self.refused.times(number));
         }
-        println!("library calls: {}, of them refused 11: {}", self.calls, self.refused[11]);
+        println!("library calls: {}, of them refused 11: {}", self.calls, self.refused.times(11));
         println!("flows bounded: {}, of them at their deadline: {}", self.bounded, self.at_deadline);
         let (at_once, late) = (self.late_at_once, self.late_by_rounds);
         println!("flows late: {}, of them with no round: {at_once}, with more than one: {late}", self.late);
@@ -100,10 +140,10 @@ impl Tally {
         println!("upstream k: {}, downstream k: {}", self.upstream, self.downstream);
         println!("most rounds: {}, of a bounded flow: {}", self.most_rounds, self.most_rounds_bounded);
         println!("mesh sizes: {}, flow counts: {}", self.meshes.len(), self.flow_counts.len());
-        let (calls, accepted) = (self.written.iter().sum::<usize>(), self.written[0]);
+        let (calls, accepted) = (self.written.times.values().sum::<usize>(), self.written.times(0));
         println!("writer calls: {calls}, of them accepted: {accepted}");
-        for number in OF_WRITING {
-            println!("writer calls refused {number}: {}", self.written[usize::from(number)]);
+        for number in refusals_of_writing() {
+            println!("writer calls refused {number}: {}", self.written.times(number));
         }
         println!("flow counts written: {}", self.written_counts.len());
         println!("plans given back by writing what was read: {}", self.given_back);
@@ -111,9 +151,8 @@ impl Tally {
 
     /// The cases that never occurred.
     pub fn unseen(&self) -> Vec<String> {
-        let refusals = (1..=11).map(|number| (format!("refusal {number}"), self.refused[number] > 0));
-        let wrote = |number: &u8| self.written[usize::from(*number)] > 0;
-        let of_writing = OF_WRITING.iter().map(|number| (format!("refusal {number} of a writing"), wrote(number)));
+        let of_plans = self.refused.cases(refusals(), "");
+        let of_writings = self.written.cases(refusals_of_writing(), " of a writing");
         let others = [
             ("acceptance", self.accepted > 0),
             ("bounded", self.bounded > 0),
@@ -128,11 +167,12 @@ impl Tally {
             ("every mesh size", self.meshes.len() == 64),
             ("every method", self.methods.len() == 4),
             ("every number of flows", self.flow_counts.len() == 65),
-            ("acceptance of a writing", self.written[0] > 0),
+            ("acceptance of a writing", self.written.times(0) > 0),
             ("every number of flows in an accepted writing", self.written_counts.len() == 65),
             ("a plan given back by writing what was read", self.given_back > 0),
         ];
-        let all = refusals.chain(of_writing).chain(others.iter().map(|(name, seen)| (name.to_string(), *seen)));
+        let others = others.iter().map(|(name, seen)| (name.to_string(), *seen));
+        let all = of_plans.into_iter().chain(of_writings).chain(others);
         all.filter(|(_, seen)| !seen).map(|(name, _)| name).collect()
     }
 }

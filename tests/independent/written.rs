@@ -19,10 +19,10 @@ const LONG: usize = 3000;
 pub fn compare(writing: &Writing, law: Law, random: &mut Random, tally: &mut Tally) -> Result<(), Disagreement> {
     let due = Due::of(writing, law);
     let exact = call(writing, &due, due.needed, law, random)?;
-    tally.wrote(exact.returned.number, writing.count);
+    tally.wrote(&exact.returned, writing.count);
     for length in [due.needed - 1, due.needed + 1 + random.below(60), 0, random.below(LONG)] {
         let called = call(writing, &due, length, law, random)?;
-        tally.wrote(called.returned.number, writing.count);
+        tally.wrote(&called.returned, writing.count);
     }
     match exact {
         Called { returned, mut buffer } if returned.number == 0 => read_back(writing, buffer.inside(), law, random),

@@ -1,6 +1,6 @@
 -- The tender's three conditions of acceptance, of any bytes offered as a plan and any buffer lent for the reply.
 -- `analyse` promises to return `returned bytes (length held)` and to leave `left bytes held` in the buffer that held `held`.
--- The words of these statements: `Laid` and `Legal` of plan's specs, `Right` of model's specs/Rules, and this crate's specs/Records.
+-- The words of these statements: `Laid`, `Legal` and `Listed` of plan's specs, `Right` of model's specs/Rules, and this crate's specs/Records.
 use Prim.Native.Nat.{ℕ, _+_, _-_, _*_, _≤_, _<_}
 use mathlib.Core.Path.{_≡_, refl, sym, ap, _∙_}
 use mathlib.Core.Logic.{_↔_, _≢_, Iff·trans}
@@ -17,9 +17,11 @@ use Rattle.plan.specs.declared.Flow.{Flow}
 use Rattle.plan.specs.declared.Reading.{Reading}
 use Rattle.plan.specs.Legal.{Legal, flow}
 use Rattle.plan.specs.Layout.{Laid}
+use Rattle.plan.specs.Refusals.{Listed}
 use Rattle.plan.specs.Reading.{accepted, refused, readPlan}
 use Rattle.plan.proofs.Answered.{Lawful, accepts, refuses, answered}
 use Rattle.plan.proofs.Exact.{accepted-exactly}
+use Rattle.plan.proofs.Numbered.{never}
 use Rattle.plan.proofs.Enough.{decided}
 use Rattle.recurrence.specs.Rounding.{up}
 use Rattle.recurrence.specs.Sums.{sumOver}
@@ -52,7 +54,8 @@ pub data Offered (bytes held : List ℕ) : Returned → List ℕ → Type 0 wher
       {p : Platform} {fs : List Flow} → Fine bytes held p fs → (answer : Flow → Verdict) → Right p fs answer →
       Offered bytes held (acceptedWith (16 * length fs + 3)) (replyBytes (answerLines fs answer) ++ drop (16 * length fs + 3) held)
   -- "or, only for a fault listed in document 01, a numbered refusal with its place": "On refusal the reply buffer is untouched".
-  sent-back : (number place : ℕ) → readPlan bytes ≡ refused number place → (1 ≤ number) × (number ≤ 10) → place ≤ length bytes → Offered bytes held (refusedWith number place) held
+  -- The number says which record and which field is in fault, and the place is there.
+  sent-back : (number place : ℕ) → readPlan bytes ≡ refused number place → Listed number place → place ≤ length bytes → Offered bytes held (refusedWith number place) held
   -- "11 | the reply buffer is too short | 0"
   too-short : (p : Platform) (fs : List Flow) → Laid bytes p fs → Legal p fs → length held < 16 * length fs + 3 → Offered bytes held (refusedWith 11 0) held
 
@@ -188,7 +191,7 @@ module _ (bytes held : List ℕ) where
     where
       go : {r : Returned} {is : List ℕ} → Offered bytes held r is → r .number ≡ 0 → (p : Platform) × (fs : List Flow) × Fine bytes held p fs
       go (analysed {p} {fs} f answer right) e = (p, fs, f)
-      go (sent-back number place q n h) e = absurd (omega (arith, n .0))
+      go (sent-back number place q n h) e = absurd (never 0 refl n e)
       go (too-short p fs laid legal h) e = absurd (omega arith)
 
   -- What `analyse` promises is what an offer comes to, no less and no more.
@@ -213,7 +216,7 @@ module _ (bytes held : List ℕ) where
     where
       go : {r : Returned} {is : List ℕ} → Offered bytes held r is → r .number ≢ 11
       go (analysed f answer right) e = omega arith
-      go (sent-back number place q n h) e = omega (arith, n .1)
+      go (sent-back number place q n h) e = never 11 refl n e
       go (too-short p fs laid legal h) e = omega (arith, legal .few)
 
   -- "It reads at most 2,048 bytes of standard input, which always decides the reply"

@@ -63,8 +63,8 @@ table =
     ∷ row no-flows 3 (acceptedWith 3) (0x7F ∷ 0x00 ∷ 0x00 ∷ [])  -- "no flows | | reply 7F 0000"
     ∷ row no-flows 2 (refusedWith 11 0) (buffer 2)
     ∷ row (take 78 P) 60 (refusedWith 1 78) (buffer 60)  -- "end record missing | | refused 1 at 78"
-    ∷ row (set P 7 65) 60 (refusedWith 5 7) (buffer 60)  -- "buffer 65 | | refused 5 at 7"
-    ∷ row (set P 7 65) 0 (refusedWith 5 7) []  -- "Then 10, then 11."
+    ∷ row (set P 7 65) 60 (refusedWith 24 7) (buffer 60)  -- document 02: "01's case of buffer 65 becomes 24 at 7"
+    ∷ row (set P 7 65) 0 (refusedWith 24 7) []  -- "Then 10, then 11."
     ∷ []
 
 replies : (map (λ r. returned (r .bytes) (r .room)) table ≡ map (λ r. r .result) table) × (map (λ r. left (r .bytes) (buffer (r .room))) table ≡ map (λ r. r .holds) table)

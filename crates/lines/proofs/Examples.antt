@@ -44,12 +44,12 @@ lateText =
     -- 5 waits 3
     53 ∷ 32 ∷ 119 ∷ 97 ∷ 105 ∷ 116 ∷ 115 ∷ 32 ∷ 51 ∷ 10 ∷ []
 
--- refused 1 at 78, refused 5 at 7
+-- refused 1 at 78, refused 24 at 7
 abbrev cutText : List ℕ
 cutText = 114 ∷ 101 ∷ 102 ∷ 117 ∷ 115 ∷ 101 ∷ 100 ∷ 32 ∷ 49 ∷ 32 ∷ 97 ∷ 116 ∷ 32 ∷ 55 ∷ 56 ∷ 10 ∷ []
 
 abbrev bufferText : List ℕ
-bufferText = 114 ∷ 101 ∷ 102 ∷ 117 ∷ 115 ∷ 101 ∷ 100 ∷ 32 ∷ 53 ∷ 32 ∷ 97 ∷ 116 ∷ 32 ∷ 55 ∷ 10 ∷ []
+bufferText = 114 ∷ 101 ∷ 102 ∷ 117 ∷ 115 ∷ 101 ∷ 100 ∷ 32 ∷ 50 ∷ 52 ∷ 32 ∷ 97 ∷ 116 ∷ 32 ∷ 55 ∷ 10 ∷ []
 
 -- The bytes offered and the text printed; methods are printed as used, so that 0 is printed as 2.
 abbrev offered : List (List ℕ)

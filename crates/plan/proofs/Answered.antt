@@ -12,6 +12,7 @@ use Rattle.plan.specs.Checks.{clashAt, tailAt, restAt, recordAt}
 use Rattle.plan.specs.Reading.{accepted, refused, records, readPlan}
 use Rattle.plan.specs.Legal.{LegalPlatform, Legal, flow}
 use Rattle.plan.specs.Layout.{place, Laid}
+use Rattle.plan.specs.Refusals.{Listed}
 use Rattle.plan.specs.declared.Platform.{Platform}
 use Rattle.plan.specs.declared.Flow.{Flow}
 use Rattle.plan.specs.declared.Reading.{Reading}
@@ -23,12 +24,12 @@ use Rattle.plan.proofs.Tags.{tag-byte}
 use Rattle.plan.proofs.Order.{passed, Framed, flow-room, platform-first, others-later, Fine, fine, fault-ends, platform-leads, flow-leads, end-accepts}
 use Rattle.plan.proofs.Fields.{passed-allowed, platform-legal, flow-legal}
 use Rattle.plan.proofs.Growth.{longer, each-more, legal-more}
-use Rattle.plan.proofs.Listed.{Numbered, Listed, fault-listed}
+use Rattle.plan.proofs.Listed.{Start, first, later, Fair, of-record, fault-listed}
 
 -- what a reading of the bytes may come to
 pub data Lawful (s : List ℕ) : Reading → Type 0 where
   accepts : (p : Platform) (fs : List Flow) → Laid s p fs → Legal p fs → Lawful s (accepted p fs)
-  refuses : (number place : ℕ) → Numbered number → place ≤ length s → Lawful s (refused number place)
+  refuses : (number place : ℕ) → Listed number place → place ≤ length s → Lawful s (refused number place)
 
 -- ---- the records in front of the one at `at`
 record Front (s : List ℕ) (p : Platform) (fs : List Flow) (at : ℕ) : Type 0 where
@@ -48,12 +49,19 @@ no-flows : (p : Platform) → LegalPlatform p → Legal p []
 no-flows p w = record { platform = w; few = omega arith; each = λ k h. absurd (omega arith); ids = λ j k l h. absurd (omega arith); priorities = λ j k l h. absurd (omega arith) }
 
 module _ {s : List ℕ} {p : Platform} {fs : List Flow} {at : ℕ} (w : Stands s p fs at) where
-  later : (at ≡ 0 → ⊥) → Front s p fs at
-  later n = go w
+  in-front : (at ≡ 0 → ⊥) → Front s p fs at
+  in-front n = go w
     where
       go : Stands s p fs at → Front s p fs at
       go (start z e) = absurd (n z)
       go (going f) = f
+
+  starts : Start at (length fs)
+  starts = go w
+    where
+      go : Stands s p fs at → Start at (length fs)
+      go (start z e) = first z
+      go (going f) = later (f .here) (f .legal .few)
 
   no-flows-yet : at ≡ 0 → fs ≡ []
   no-flows-yet z = go w
@@ -77,7 +85,7 @@ module _ {s : List ℕ} {p : Platform} {fs : List Flow} {at : ℕ} (w : Stands s
   flow-step : Fine s at p fs FlowRecord → Front s p (fs ++ flowAt s at ∷ []) (at + 23)
   unfolding restAt clashAt
   flow-step f =
-      let b = later (others-later FlowRecord refl (f .frame)) in
+      let b = in-front (others-later FlowRecord refl (f .frame)) in
       let g = flowAt s at in
       let m = passed _ _ _ _ (f .rest) in
       let i = passed _ _ _ _ (m .1) in
@@ -93,7 +101,7 @@ module _ {s : List ℕ} {p : Platform} {fs : List Flow} {at : ℕ} (w : Stands s
   end-step : Fine s at p fs EndRecord → Laid s p fs × Legal p fs
   unfolding restAt tailAt
   end-step f =
-      let b = later (others-later EndRecord refl (f .frame)) in
+      let b = in-front (others-later EndRecord refl (f .frame)) in
       let t = ltb-false (at + 3) (length s) (passed _ _ _ _ (f .rest) .0) in
       (record { platform = b .platform; each = b .each; end = rw (b .here) at (headed EndRecord (f .frame)); nothing-else = omega (arith, b .here, f .frame .whole) }, b .legal)
 
@@ -104,7 +112,7 @@ module _ (s : List ℕ) where
 
   by-record : (turns : ℕ) → From turns → (p : Platform) (fs : List Flow) (at : ℕ) → Stands s p fs at → at ≤ length s → (c : Checked) → recordAt s at p fs ≡ c → Lawful s (records (suc turns) s at p fs)
   by-record turns more p fs at w h (Fault number pl) e =
-      let l = subst (Listed s) e (fault-listed s at p fs h) in
+      let l = subst (Fair s) e (fault-listed s fs (starts w) p h) in
       rw (fault-ends s at p fs turns e) (refuses number pl (l .0) (l .1))
   by-record turns more p fs at w h (Passed PlatformRecord) e =
       let f = fine s at p fs e in
@@ -118,7 +126,7 @@ module _ (s : List ℕ) where
 
   from : (turns : ℕ) → From turns
   unfolding records
-  from zero p fs at w h = refuses 1 at (omega arith, omega arith) h
+  from zero p fs at w h = refuses 1 at (of-record s (starts w) 1 0 at refl (omega arith) h .0) h
   from (suc turns) p fs at w h = by-record turns (from turns) p fs at w h (recordAt s at p fs) refl
 
   -- "Every byte string offered as a plan gets an analysis or, only for a fault listed in document 01, a numbered refusal with its place"

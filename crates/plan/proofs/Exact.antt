@@ -17,6 +17,7 @@ use Rattle.plan.specs.Reading.{accepted, refused, records, readPlan}
 use Rattle.plan.specs.Padded.{padded}
 use Rattle.plan.specs.Legal.{Distinct, Legal, flow}
 use Rattle.plan.specs.Layout.{place, Laid}
+use Rattle.plan.specs.Refusals.{Listed}
 use Rattle.plan.specs.declared.Platform.{Platform}
 use Rattle.plan.specs.declared.Flow.{Flow}
 use Rattle.plan.specs.declared.Reading.{Reading}
@@ -27,7 +28,6 @@ use Rattle.plan.proofs.Frames.{frame-passes, end-passes}
 use Rattle.plan.proofs.Order.{record-rest, platform-leads, flow-leads, end-accepts}
 use Rattle.plan.proofs.Fields.{allowed-passed, legal-platform, legal-flow}
 use Rattle.plan.proofs.Growth.{found-none}
-use Rattle.plan.proofs.Listed.{Numbered}
 use Rattle.plan.proofs.Answered.{Lawful, accepts, refuses, answered}
 
 module _ (s : List ℕ) (p : Platform) (fs : List Flow) (laid : Laid s p fs) (legal : Legal p fs) where
@@ -110,12 +110,12 @@ accepted-laid s p fs = go (readPlan s) (answered s)
     go r (accepts q gs laid legal) e = let k = same-plan q p gs fs e in rw (← k .0, ← k .1) (laid, legal)
     go r (refuses number pl n h) e = absurd (refused-never number pl p fs e)
 
--- a refusal's number is one of document 01's and never acceptance's 0, and its place is one of the input's or the end of it
-pub refusal-listed : (s : List ℕ) (number pl : ℕ) → readPlan s ≡ refused number pl → Numbered number × (pl ≤ length s)
+-- a refusal's number and place are listed: the number says what is in fault, and the place is there, one of the input's or the end of it
+pub refusal-listed : (s : List ℕ) (number pl : ℕ) → readPlan s ≡ refused number pl → Listed number pl × (pl ≤ length s)
 unfolding refused
 refusal-listed s number pl = go (readPlan s) (answered s)
   where
-    go : (r : Reading) → Lawful s r → r ≡ refused number pl → Numbered number × (pl ≤ length s)
+    go : (r : Reading) → Lawful s r → r ≡ refused number pl → Listed number pl × (pl ≤ length s)
     go r (accepts q gs laid legal) e = absurd (refused-never number pl q gs (sym e))
     go r (refuses n at w h) e = let o : Refused n at ≡ Refused number pl = ap (λ (x : Reading). x .outcome) e in
         let a : n ≡ number = cc in

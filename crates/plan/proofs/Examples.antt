@@ -56,7 +56,7 @@ frames :
 unfolding tagOf headerAt taggedAt frameAt fieldsFrom clashAt tailAt restAt _then_ bodyAt recordAt accepted refused after records readPlan _when_else_ outcomes
 frames = refl
 
--- 5: each field below and above its values
+-- 20 to 25, 30 to 38: each field below and above its values, in the platform and in the first flow
 fields :
     outcomes
     (set P 3 0 ∷ set P 3 9  -- columns
@@ -71,15 +71,33 @@ fields :
     ∷ set P 17 6  -- destination
     ∷ bytes 18 (0 ∷ 0 ∷ [])  -- flits
     ∷ set P 23 0 ∷ bytes 20 (0x3B ∷ 0x9A ∷ 0xCA ∷ 0x01 ∷ [])  -- period
-    ∷ set P 27 0 ∷ set P 27 201  -- deadline
+    ∷ set P 27 0  -- deadline zero
+    ∷ set P 27 201  -- deadline above the period
     ∷ bytes 28 (0x3B ∷ 0x9A ∷ 0xCA ∷ 0x01 ∷ [])  -- jitter
     ∷ [])
-    ≡ Refused 5 3 ∷ Refused 5 3 ∷ Refused 5 4 ∷ Refused 5 4 ∷ Refused 5 5 ∷ Refused 5 5 ∷ Refused 5 6
-    ∷ Refused 5 7 ∷ Refused 5 7 ∷ Refused 5 8
-    ∷ Refused 5 12 ∷ Refused 5 14 ∷ Refused 5 16 ∷ Refused 5 17 ∷ Refused 5 18
-    ∷ Refused 5 20 ∷ Refused 5 20 ∷ Refused 5 24 ∷ Refused 5 24 ∷ Refused 5 28 ∷ []
+    ≡ Refused 20 3 ∷ Refused 20 3 ∷ Refused 21 4 ∷ Refused 21 4 ∷ Refused 22 5 ∷ Refused 22 5 ∷ Refused 23 6
+    ∷ Refused 24 7 ∷ Refused 24 7 ∷ Refused 25 8
+    ∷ Refused 30 12 ∷ Refused 31 14 ∷ Refused 32 16 ∷ Refused 33 17 ∷ Refused 34 18
+    ∷ Refused 35 20 ∷ Refused 35 20 ∷ Refused 36 24 ∷ Refused 38 24 ∷ Refused 37 28 ∷ []
 unfolding tagOf headerAt taggedAt frameAt fieldsFrom clashAt tailAt restAt _then_ bodyAt recordAt accepted refused after records readPlan _when_else_ outcomes bytes
 fields = refl
+
+-- the same in the last flow, 46 bytes on
+last-flow :
+    outcomes
+    (bytes 58 (0xFF ∷ 0xFF ∷ [])  -- id
+    ∷ bytes 60 (0 ∷ 0 ∷ [])  -- priority
+    ∷ set P 62 6  -- source
+    ∷ set P 63 6  -- destination
+    ∷ bytes 64 (0 ∷ 0 ∷ [])  -- flits
+    ∷ bytes 66 (0 ∷ 0 ∷ 0 ∷ 0 ∷ [])  -- period
+    ∷ bytes 70 (0 ∷ 0 ∷ 0 ∷ 0 ∷ [])  -- deadline zero
+    ∷ bytes 70 (0 ∷ 0 ∷ 0x17 ∷ 0x71 ∷ [])  -- deadline above the period
+    ∷ bytes 74 (0x3B ∷ 0x9A ∷ 0xCA ∷ 0x01 ∷ [])  -- jitter
+    ∷ [])
+    ≡ Refused 30 58 ∷ Refused 31 60 ∷ Refused 32 62 ∷ Refused 33 63 ∷ Refused 34 64 ∷ Refused 35 66 ∷ Refused 36 70 ∷ Refused 38 70 ∷ Refused 37 74 ∷ []
+unfolding tagOf headerAt taggedAt frameAt fieldsFrom clashAt tailAt restAt _then_ bodyAt recordAt accepted refused after records readPlan _when_else_ outcomes bytes
+last-flow = refl
 
 -- the last allowed value of each field whose first is not the last; among them a deadline of 1 and a jitter of 10^9:
 -- "A deadline below the unloaded latency is legal, and so is a jitter above the period."
@@ -113,15 +131,18 @@ orders :
     (set (drop 9 P) 0 0x03  -- 2 before 4
     ∷ set (drop 9 P) 1 1  -- 4 before 3
     ∷ set (take 8 P) 2 7  -- 3 before 1
-    ∷ set (set P 7 65) 3 0  -- 5 field by field
-    ∷ put (set P 17 4) 28 (0x3B ∷ 0x9A ∷ 0xCA ∷ 0x01 ∷ [])  -- 5 before 9
+    ∷ set (set P 7 65) 3 0  -- field by field: 20 before 24
+    ∷ bytes 20 (0 ∷ 0 ∷ 0 ∷ 0 ∷ [])  -- 35 before 38, the deadline being above that period
+    ∷ put (set P 27 0) 28 (0x3B ∷ 0x9A ∷ 0xCA ∷ 0x01 ∷ [])  -- 36 before 37
+    ∷ put (set P 27 201) 28 (0x3B ∷ 0x9A ∷ 0xCA ∷ 0x01 ∷ [])  -- 38 before 37
+    ∷ put (set P 17 4) 28 (0x3B ∷ 0x9A ∷ 0xCA ∷ 0x01 ∷ [])  -- the fields before 9
     ∷ set (set P 36 2) 40 0  -- 9 before 7
     ∷ set (set P 38 1) 36 2  -- 7 before 8
     ∷ set (set P 17 4) 7 65  -- the platform before a flow
     ∷ set (P ++ 0 ∷ []) 63 1  -- a flow before 10
     ∷ [])
-    ≡ Refused 2 0 ∷ Refused 4 0 ∷ Refused 3 1 ∷ Refused 5 3 ∷ Refused 5 28 ∷ Refused 9 40 ∷ Refused 7 35 ∷ Refused 5 7 ∷ Refused 9 63 ∷ []
-unfolding tagOf headerAt taggedAt frameAt fieldsFrom clashAt tailAt restAt _then_ bodyAt recordAt accepted refused after records readPlan _when_else_ outcomes
+    ≡ Refused 2 0 ∷ Refused 4 0 ∷ Refused 3 1 ∷ Refused 20 3 ∷ Refused 35 20 ∷ Refused 36 24 ∷ Refused 38 24 ∷ Refused 37 28 ∷ Refused 9 40 ∷ Refused 7 35 ∷ Refused 24 7 ∷ Refused 9 63 ∷ []
+unfolding tagOf headerAt taggedAt frameAt fieldsFrom clashAt tailAt restAt _then_ bodyAt recordAt accepted refused after records readPlan _when_else_ outcomes bytes
 orders = refl
 
 -- 6: the flow record of P behind 64 flows: a cut body before 6, and 6 before its fields

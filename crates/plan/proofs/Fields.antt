@@ -25,7 +25,7 @@ use Rattle.plan.proofs.Order.{passed}
 abbrev pub Below : Limits → Limit → ℕ → Type 0
 Below l (UpTo n) v = v ≤ n
 Below l BelowNodes v = v < l .nodes
-Below l UpToPeriod v = v ≤ l .period
+Below l (UpToPeriod own) v = v ≤ l .period
 
 -- the fields from the one at this offset on have allowed values
 abbrev pub Allowed : List ℕ → ℕ → Limits → ℕ → List Field → Type 0
@@ -41,12 +41,12 @@ neither false b e = (refl, e)
 not-above : (l : Limits) (limit : Limit) (v : ℕ) → above l limit v ≡ false → Below l limit v
 not-above l (UpTo n) v e = ltb-false n v e
 not-above l BelowNodes v e = leb-false (l .nodes) v e
-not-above l UpToPeriod v e = ltb-false (l .period) v e
+not-above l (UpToPeriod own) v e = ltb-false (l .period) v e
 
 below-not : (l : Limits) (limit : Limit) (v : ℕ) → Below l limit v → above l limit v ≡ false
 below-not l (UpTo n) v h = le-ltb n v h
 below-not l BelowNodes v h = lt-leb (l .nodes) v h
-below-not l UpToPeriod v h = le-ltb (l .period) v h
+below-not l (UpToPeriod own) v h = le-ltb (l .period) v h
 
 module _ (s : List ℕ) (at : ℕ) (kind : Kind) (l : Limits) where
   pub passed-allowed : (offset : ℕ) (fs : List Field) {found : Kind} → fieldsFrom s at kind l offset fs ≡ Passed found → Allowed s at l offset fs

@@ -11,6 +11,7 @@ mod Recording
 mod Fields
 mod Growth
 mod Listed
+pub mod Numbered
 pub mod Answered
 pub mod Frames
 pub mod Exact

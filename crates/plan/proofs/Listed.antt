@@ -1,18 +1,20 @@
--- Every fault that a record can have is one of document 01's, at a place of the input or at its end.
+-- Every fault that a record can have is one that document 01 lists, at the place it lists.
 use Prim.Native.Nat.{ℕ, _+_, _-_, _≤_}
 use native.Mathlib.Omega.{arith}
 use mathlib.Core.Path.{_≡_, refl}
 use mathlib.Core.Bool.{Bool, true, false}
 use mathlib.Core.List.{List, [], _∷_}
 use lib.ListN.{length}
-use lib.Dec.{ltb}
-use borrow.Author.Tests.{ltb-false}
+use lib.Dec.{eqb}
+use borrow.Author.Tests.{ltb-false, eqb-false, leb-true}
 use Rattle.framing.specs.First.{_when_else_}
 use Rattle.framing.specs.Numbers.{bytesOf}
 use Rattle.framing.specs.Header.{tagAt}
-use Rattle.plan.specs.Table.{tagOf, bodyLength, fieldsOf, width, refusalOf}
-use Rattle.plan.specs.Values.{flowAt, limitsAt}
-use Rattle.plan.specs.Checks.{headerAt, taggedAt, frameAt, fieldsFrom, clashAt, tailAt, restAt, _then_, bodyAt, recordAt}
+use Rattle.plan.specs.Table.{tagOf, fieldsOf, width, highestOf, refusalAbove}
+use Rattle.plan.specs.Values.{limitsAt}
+use Rattle.plan.specs.Checks.{misplaced, noRoom, headerAt, taggedAt, frameAt, fieldsFrom, clashAt, tailAt, restAt, _then_, bodyAt, recordAt}
+use Rattle.plan.specs.Layout.{place}
+use Rattle.plan.specs.Refusals.{recordRefusals, refusalsOf, has, Listed, of-first, of-later, of-platform, of-flow, of-flow-65, of-end}
 use Rattle.plan.specs.declared.Platform.{Platform}
 use Rattle.plan.specs.declared.Flow.{Flow}
 use Rattle.plan.specs.declared.checks.Checked.{Checked}
@@ -23,87 +25,122 @@ use Rattle.plan.specs.declared.table.Kind.the-variants.{PlatformRecord, 
 use Rattle.plan.specs.declared.table.Tag.{Tag}
 use Rattle.plan.specs.declared.table.Tag.the-variants.{Known, Unknown}
 use Rattle.plan.specs.declared.values.Limits.{Limits}
-use Rattle.plan.proofs.Order.{framed}
+use Rattle.plan.proofs.Order.{Framed, framed, flow-room, platform-first, others-later, first-only}
 use Rattle.plan.proofs.Scan.{sizeOf, filled}
 
--- "What sends a plan back": numbers 1 to 10 are the reader's
-abbrev pub Numbered : ℕ → Type 0
-Numbered number = (1 ≤ number) × (number ≤ 10)
+-- the table of fields gives each the number that is listed at its place
+abbrev Numbered : List (ℕ × ℕ) → ℕ → List Field → Type 0
+Numbered lines offset [] = Unit {0}
+Numbered lines offset (f ∷ fs) =
+    ((has lines (f .3) offset ≡ true) × (has lines (refusalAbove (highestOf f) (f .3)) offset ≡ true))
+    × Numbered lines (offset + bytesOf (width f)) fs
 
-abbrev numbered : List Field → Type 0
-numbered [] = Unit {0}
-numbered (f ∷ fs) = Numbered (refusalOf f) × numbered fs
+numbered : (kind : Kind) → Numbered (refusalsOf kind) 3 (fieldsOf kind)
+numbered PlatformRecord = ((refl, refl), ((refl, refl), ((refl, refl), ((refl, refl), ((refl, refl), ((refl, refl), tt))))))
+numbered FlowRecord = ((refl, refl), ((refl, refl), ((refl, refl), ((refl, refl), ((refl, refl), ((refl, refl), ((refl, refl), ((refl, refl), tt))))))))
+numbered EndRecord = tt
 
-five : Numbered 5
-five = (omega arith, omega arith)
+one-of : {A : Type 0} (P : A → Type 0) (test : Bool) {x y : A} → P x → P y → P (x when test else y)
+unfolding _when_else_
+one-of P true a b = a
+one-of P false a b = b
 
-fields-numbered : (kind : Kind) → numbered (fieldsOf kind)
-fields-numbered PlatformRecord = (five, (five, (five, (five, (five, (five, tt))))))
-fields-numbered FlowRecord = (five, (five, (five, (five, (five, (five, (five, (five, tt))))))))
-fields-numbered EndRecord = tt
+-- where a record starts that is looked at behind `count` flows
+pub data Start (at count : ℕ) : Type 0 where
+  first : at ≡ 0 → Start at count
+  later : at ≡ place count → count ≤ 64 → Start at count
 
 module _ (s : List ℕ) where
-  abbrev pub Listed : Checked → Type 0
-  Listed (Fault number place) = Numbered number × (place ≤ length s)
-  Listed (Passed kind) = Unit {0}
+  abbrev pub Fair : Checked → Type 0
+  Fair (Fault number pl) = Listed number pl × (pl ≤ length s)
+  Fair (Passed kind) = Unit {0}
 
-  chain : (test : Bool) (number place : ℕ) (next : Checked) → Numbered number → place ≤ length s → Listed next → Listed (Fault number place when test else next)
+  chain : (test : Bool) (number pl : ℕ) (next : Checked) → (test ≡ true → Listed number pl × (pl ≤ length s)) → (test ≡ false → Fair next) → Fair (Fault number pl when test else next)
   unfolding _when_else_
-  chain true number place next n h w = (n, h)
-  chain false number place next n h w = w
+  chain true number pl next f g = f refl
+  chain false number pl next f g = g refl
 
-  follow : (first next : Checked) → Listed first → Listed next → Listed (first then next)
+  follow : (first next : Checked) → Fair first → Fair next → Fair (first then next)
   unfolding _then_
-  follow (Fault number place) next a b = a
+  follow (Fault number pl) next a b = a
   follow (Passed kind) next a b = b
 
-  fields : (at : ℕ) (kind : Kind) (l : Limits) (offset : ℕ) (fs : List Field) → numbered fs → at + offset + sizeOf fs ≤ length s → Listed (fieldsFrom s at kind l offset fs)
-  unfolding fieldsFrom
-  fields at kind l offset [] n h = tt
-  fields at kind l offset (f ∷ fs) (n, ns) h = chain _ (refusalOf f) (at + offset) _ n (omega arith) (fields at kind l (offset + bytesOf (width f)) fs ns (omega arith))
-
-  module _ (at : ℕ) where
-    tagged : (t : Tag) (count : ℕ) → at + 3 ≤ length s → Listed (taggedAt s at t count)
-    unfolding taggedAt headerAt
-    tagged (Known kind) count h =
-        chain _ 4 at _ (omega arith, omega arith) (omega arith)
-        (chain _ 3 (at + 1) _ (omega arith, omega arith) (omega arith)
-        (chain _ 1 at _ (omega arith, omega arith) (omega arith)
-        (chain _ 6 at _ (omega arith, omega arith) (omega arith) tt)))
-    tagged Unknown count h = ((omega arith, omega arith), omega arith)
-
-    frame : (count : ℕ) → at ≤ length s → Listed (frameAt s at count)
-    unfolding frameAt _when_else_
-    frame count h = go (ltb (length s - at) 3) refl
+  module _ {at count : ℕ} (start : Start at count) where
+    behind : (at ≡ 0 → ⊥) → (at ≡ place count) × (count ≤ 64)
+    behind n = go start
       where
-        go : (b : Bool) → ltb (length s - at) 3 ≡ b → Listed (Fault 1 at when b else taggedAt s at (tagOf (tagAt s at)) count)
-        go true e = ((omega arith, omega arith), h)
-        go false e = tagged (tagOf (tagAt s at)) count (omega (arith, ltb-false (length s - at) 3 e))
+        go : Start at count → (at ≡ place count) × (count ≤ 64)
+        go (first z) = absurd (n z)
+        go (later e few) = (e, few)
 
-    tail : at + 3 ≤ length s → Listed (tailAt s at)
-    unfolding tailAt
-    tail h = chain _ 10 (at + 3) _ (omega arith, omega arith) h tt
+    pub of-record : (number offset pl : ℕ) → has recordRefusals number offset ≡ true → pl ≡ at + offset → pl ≤ length s → Listed number pl × (pl ≤ length s)
+    of-record number offset pl m e h = (go start, h)
+      where
+        go : Start at count → Listed number pl
+        go (first z) = let q : pl ≡ offset = omega (arith, e, z) in rw q (of-first number offset m)
+        go (later w few) = let q : pl ≡ place count + offset = omega (arith, e, w) in rw q (of-later count number offset few m)
 
-    clash : (f : Flow) (ids priorities : List ℕ) → at + 23 ≤ length s → Listed (clashAt at f ids priorities)
-    unfolding clashAt
-    clash f ids priorities h =
-        chain _ 9 (at + 8) _ (omega arith, omega arith) (omega arith)
-        (chain _ 7 (at + 3) _ (omega arith, omega arith) (omega arith)
-        (chain _ 8 (at + 5) _ (omega arith, omega arith) (omega arith) tt))
+    of-kind : (kind : Kind) → Framed s at kind count → (number offset : ℕ) → has (refusalsOf kind) number offset ≡ true → Listed number (at + offset)
+    of-kind PlatformRecord w number offset m = let q : at + offset ≡ offset = omega (arith, platform-first w) in rw q (of-platform number offset m)
+    of-kind FlowRecord w number offset m =
+        let (e, few) = behind (others-later FlowRecord refl w) in
+        let q : at + offset ≡ place count + offset = omega (arith, e) in
+        rw q (of-flow count number offset (flow-room w refl) m)
+    of-kind EndRecord w number offset m =
+        let (e, few) = behind (others-later EndRecord refl w) in
+        let q : at + offset ≡ place count + offset = omega (arith, e) in
+        rw q (of-end count number offset few m)
 
-    rest : (kind : Kind) (ids priorities : List ℕ) → at + 3 + bodyLength kind ≤ length s → Listed (restAt s at kind ids priorities)
-    unfolding restAt
-    rest PlatformRecord ids priorities h = tt
-    rest FlowRecord ids priorities h = clash (flowAt s at) ids priorities (omega arith)
-    rest EndRecord ids priorities h = tail (omega arith)
+    of-65th : (kind : Kind) → misplaced (eqb at 0) kind ≡ false → noRoom kind count ≡ true → Listed 6 at
+    of-65th PlatformRecord m r = absurd (let z : _≡_ {A = ℕ} 0 1 = cc in omega arith)
+    of-65th EndRecord m r = absurd (let z : _≡_ {A = ℕ} 0 1 = cc in omega arith)
+    of-65th FlowRecord m r =
+        let (e, few) = behind (eqb-false at 0 (first-only (eqb at 0) FlowRecord m)) in
+        let q : at ≡ place 64 = omega (arith, e, few, leb-true 64 count r) in
+        rw q of-flow-65
 
-    body : (c : Checked) (p : Platform) (fs : List Flow) → frameAt s at (length fs) ≡ c → Listed c → Listed (bodyAt s at c p fs)
+    tagged : (t : Tag) → at + 3 ≤ length s → Fair (taggedAt s at t count)
+    unfolding taggedAt headerAt
+    tagged (Known kind) h =
+        chain _ _ _ _ (λ z. of-record 4 0 at refl (omega arith) (omega arith))
+        λ m. chain _ _ _ _ (λ z. of-record 3 1 (at + 1) refl (omega arith) (omega arith))
+        λ z. chain _ _ _ _ (λ z. of-record 1 0 at refl (omega arith) (omega arith))
+        λ z. chain _ _ _ _ (λ r. (of-65th kind m r, omega arith)) λ z. tt
+    tagged Unknown h = of-record 2 0 at refl (omega arith) (omega arith)
+
+    frame : at ≤ length s → Fair (frameAt s at count)
+    unfolding frameAt
+    frame h =
+        chain _ _ _ _ (λ z. of-record 1 0 at refl (omega arith) h)
+        λ e. tagged (tagOf (tagAt s at)) (omega (arith, ltb-false (length s - at) 3 e))
+
+    module _ {kind : Kind} (w : Framed s at kind count) where
+      fields : (l : Limits) (offset : ℕ) (fs : List Field) → Numbered (refusalsOf kind) offset fs → at + offset + sizeOf fs ≤ length s → Fair (fieldsFrom s at kind l offset fs)
+      unfolding fieldsFrom
+      fields l offset [] n h = tt
+      fields l offset (f ∷ fs) (n, ns) h =
+          chain _ _ _ _
+          (λ z. (of-kind kind w _ offset (one-of (λ (x : ℕ). has (refusalsOf kind) x offset ≡ true) _ (n .0) (n .1)), omega arith))
+          λ z. fields l (offset + bytesOf (width f)) fs ns (omega arith)
+
+    rest : (kind : Kind) (ids priorities : List ℕ) → Framed s at kind count → Fair (restAt s at kind ids priorities)
+    unfolding restAt clashAt tailAt
+    rest PlatformRecord ids priorities w = tt
+    rest FlowRecord ids priorities w =
+        let inside = w .whole in
+        chain _ _ _ _ (λ z. (of-kind FlowRecord w 9 8 refl, omega arith))
+        λ z. chain _ _ _ _ (λ z. (of-kind FlowRecord w 7 3 refl, omega arith))
+        λ z. chain _ _ _ _ (λ z. (of-kind FlowRecord w 8 5 refl, omega arith)) λ z. tt
+    rest EndRecord ids priorities w = chain _ _ _ _ (λ z. (of-kind EndRecord w 10 3 refl, omega (arith, w .whole))) λ z. tt
+
+  module _ {at : ℕ} (fs : List Flow) (start : Start at (length fs)) where
+    body : (c : Checked) (p : Platform) → frameAt s at (length fs) ≡ c → Fair c → Fair (bodyAt s at c p fs)
     unfolding bodyAt
-    body (Fault number place) p fs e w = w
-    body (Passed kind) p fs e w =
-        let h = framed s at (length fs) e .whole in
-        follow _ _ (fields at kind (limitsAt s at kind p) 3 (fieldsOf kind) (fields-numbered kind) (omega (arith, filled kind))) (rest kind _ _ h)
+    body (Fault number pl) p e f = f
+    body (Passed kind) p e f =
+        let w = framed s at (length fs) e in
+        follow _ _ (fields start w (limitsAt s at kind p) 3 (fieldsOf kind) (numbered kind) (omega (arith, w .whole, filled kind))) (rest start kind _ _ w)
 
-    pub fault-listed : (p : Platform) (fs : List Flow) → at ≤ length s → Listed (recordAt s at p fs)
+    pub fault-listed : (p : Platform) → at ≤ length s → Fair (recordAt s at p fs)
     unfolding recordAt
-    fault-listed p fs h = body (frameAt s at (length fs)) p fs refl (frame (length fs) h)
+    fault-listed p h = body (frameAt s at (length fs)) p refl (frame start h)

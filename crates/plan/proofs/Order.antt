@@ -69,7 +69,7 @@ pub flow-room : {s : List ℕ} {at count : ℕ} {kind : Kind} → Framed s at ki
 flow-room {count} w e = leb-false 64 count (rw e at (w .room))
 
 -- a platform stands at place 0, and nothing else does
-first-only : (first : Bool) (kind : Kind) → misplaced first kind ≡ false → first ≡ isPlatform kind
+pub first-only : (first : Bool) (kind : Kind) → misplaced first kind ≡ false → first ≡ isPlatform kind
 first-only true PlatformRecord e = refl
 first-only true FlowRecord e = e
 first-only true EndRecord e = e

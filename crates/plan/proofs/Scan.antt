@@ -57,7 +57,7 @@ module _ {s : List ℕ} {at : ℕ} {kind : Kind} {p : Platform} {l : Limits} {en
     pub field-inside : at + offset + bytesOf (width f) ≤ length s
     field-inside = omega (arith, w .whole, w .room, size-left)
 
-    pub field-stops : {v : ℕ} → v ≡ numberAt s (width f) (at + offset) → outside l f v ≡ true → fieldsAt s at kind p ≡ Fault (refusalOf f) (at + offset)
+    pub field-stops : {v : ℕ} → v ≡ numberAt s (width f) (at + offset) → outside l f v ≡ true → fieldsAt s at kind p ≡ Fault (refusalOf f v) (at + offset)
     unfolding fieldsFrom _when_else_
     field-stops q t = w .rest ∙ rw (next-field, ← q, t)
 

@@ -62,8 +62,8 @@ module _ {s : List ℕ} {at : ℕ} {p : Platform} {flows : List Flow} {ids prior
 
   -- a field, its value and what the check of it said
   module _ {f : Field} {v : ℕ} {b : Bool} (h : k < end) (e : f ≡ getD (fieldsOf kind) k noField) (q : v ≡ numberAt s (width f) (at + offset)) (o : b ≡ outside l f v) where
-    pub field-refuses : b ≡ true → refused (refusalOf f) (at + offset) ≡ readPlan s
-    field-refuses t = sym (w .sofar .rest ∙ fault-ends s at p _ _ (record-field s at p _ frame-fine (field-stops (w .scan) h e q (sym o ∙ t))))
+    pub field-refuses : {number : ℕ} → b ≡ true → number ≡ refusalOf f v → refused number (at + offset) ≡ readPlan s
+    field-refuses t n = ap (λ (x : ℕ). refused x (at + offset)) n ∙ sym (w .sofar .rest ∙ fault-ends s at p _ _ (record-field s at p _ frame-fine (field-stops (w .scan) h e q (sym o ∙ t))))
 
     pub inside-more : {n : ℕ} → b ≡ false → n ≡ bytesOf (width f) → Inside s at p flows ids priorities count kind l end (k + 1) (offset + n)
     inside-more t g = rw g (record { sofar = w .sofar; frame = w .frame; scan = scanning-more (w .scan) h e q (sym o ∙ t) })

@@ -64,17 +64,18 @@ frameAt s at count = Fault 1 at when headerCut s at else taggedAt s at (tagOf (t
 abbrev pub above : Limits → Limit → ℕ → Bool
 above l (UpTo n) v = ltb n v
 above l BelowNodes v = leb (l .nodes) v
-above l UpToPeriod v = ltb (l .period) v
+above l (UpToPeriod own) v = ltb (l .period) v
 
--- 5: "a field outside its values"
+-- 20 to 38: "a field outside its values"
 abbrev pub outside : Limits → Field → ℕ → Bool
 outside l f v = ltb v (lowestOf f) || above l (highestOf f) v
 
--- "then 5 field by field": the fields from the one at this offset of the record on.
+-- "field by field": the fields from the one at this offset of the record on.
 unfoldable pub fieldsFrom : List ℕ → ℕ → Kind → Limits → ℕ → List Field → Checked
 fieldsFrom s at kind l offset [] = Passed kind
 fieldsFrom s at kind l offset (f ∷ rest) =
-    Fault (refusalOf f) (at + offset) when outside l f (numberAt s (width f) (at + offset)) else
+    let v = numberAt s (width f) (at + offset) in
+    Fault (refusalOf f v) (at + offset) when outside l f v else
     fieldsFrom s at kind l (offset + bytesOf (width f)) rest
 
 -- The first field stands behind the tag and the length.
@@ -122,6 +123,6 @@ unfoldable pub bodyAt : List ℕ → ℕ → Checked → Platform → List Flow 
 bodyAt s at (Fault number place) p fs = Fault number place
 bodyAt s at (Passed kind) p fs = fieldsAt s at kind p then restAt s at kind (idsOf fs) (prioritiesOf fs)
 
--- "Within a record the order is: header complete (1), 2, 4, 3, body complete (1), 6, then 5 field by field, 9, 7, 8", and for the end record 10.
+-- "Within a record the order is: header complete (1), 2, 4, 3, body complete (1), 6, then .. field by field, 9, 7, 8", and for the end record 10.
 unfoldable pub recordAt : List ℕ → ℕ → Platform → List Flow → Checked
 recordAt s at p fs = bodyAt s at (frameAt s at (length fs)) p fs

@@ -6,4 +6,5 @@ pub mod Padded
 pub mod Reading
 pub mod Legal
 pub mod Layout
+pub mod Refusals
 pub mod PlanP

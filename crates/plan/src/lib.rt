@@ -9,6 +9,7 @@ use crate::checks::Checked;
 use crate::checks::check_frame;
 use crate::checks::check_rest;
 use crate::checks::is_outside;
+use crate::checks::refusal_of;
 use crate::table::Field;
 use crate::table::Kind;
 use crate::table::field_count;
@@ -117,10 +118,10 @@ pub fn read(bytes: &[u8]) -> Reading
         let mut offset: usize = 3;
         for k in 0..field_count(kind) {
             let field = field_of(kind, k);
-            let Field(width, _, _, refusal) = field;
+            let Field(width, _, _, _) = field;
             let value = number_at(bytes, width, at + offset);
             if is_outside(limits, field, value) {
-                break 'records refuse(refusal, at + offset);
+                break 'records refuse(refusal_of(field, value), at + offset);
             }
             offset += bytes_of(width);
         }

@@ -50,7 +50,7 @@ answers =
     ∷ returned (platform 65 3) flows 80  -- a field comes before the buffer's length
     ∷ returned (platform 10 4) flows 81
     ∷ returned (platform 10 3) (first 201 ∷ second 3 5 ∷ []) 81  -- a deadline above its period
-    ∷ returned (platform 10 3) (first 0 ∷ second 3 5 ∷ []) 81
+    ∷ returned (platform 10 3) (first 0 ∷ second 3 5 ∷ []) 81  -- a deadline of zero
     ∷ returned (platform 10 3) (first 200 ∷ second 3 6 ∷ []) 81  -- a destination outside the mesh
     ∷ returned (platform 10 3) (first 200 ∷ second 2 0 ∷ []) 81  -- 9 before 7
     ∷ returned (platform 10 3) (first 200 ∷ second 2 5 ∷ []) 81
@@ -62,11 +62,11 @@ answers-are :
     answers
     ≡ acceptedWith 81
     ∷ refusedWith 11 0
-    ∷ refusedWith 5 7
-    ∷ refusedWith 5 8
-    ∷ refusedWith 5 24
-    ∷ refusedWith 5 24
-    ∷ refusedWith 5 40
+    ∷ refusedWith 24 7
+    ∷ refusedWith 25 8
+    ∷ refusedWith 38 24
+    ∷ refusedWith 36 24
+    ∷ refusedWith 33 40
     ∷ refusedWith 9 40
     ∷ refusedWith 7 35
     ∷ refusedWith 8 60

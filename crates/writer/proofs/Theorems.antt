@@ -20,6 +20,7 @@ use Rattle.plan.specs.declared.Outcome.{Outcome}
 use Rattle.plan.specs.declared.Outcome.the-variants.{Accepted, Refused}
 use Rattle.plan.specs.declared.Reading.{Reading}
 use Rattle.plan.proofs.Answered.{Lawful, accepts, refuses, answered}
+use Rattle.plan.proofs.Numbered.{never}
 use Rattle.writer.specs.PlanBytes.{planBytes, FitsPlan}
 use Rattle.writer.specs.Written.{returnedBy, leftBy, returned, left}
 use Rattle.writer.proofs.Putting.{length-plan}
@@ -27,13 +28,13 @@ use Rattle.writer.proofs.ReadBack.{given-back, written-exactly}
 use Rattle.writer.proofs.Again.{same-bytes}
 
 -- A refusal's number is not acceptance's 0.
-numbered : (s : List ℕ) {number place : ℕ} → readPlan s .outcome ≡ Refused number place → 1 ≤ number
+not-accepted : (s : List ℕ) {number place : ℕ} → readPlan s .outcome ≡ Refused number place → number ≢ 0
 unfolding accepted refused
-numbered s {number} {place} = go (readPlan s) (answered s)
+not-accepted s {number} {place} = go (readPlan s) (answered s)
   where
-    go : (r : Reading) → Lawful s r → r .outcome ≡ Refused number place → 1 ≤ number
+    go : (r : Reading) → Lawful s r → r .outcome ≡ Refused number place → number ≢ 0
     go r (accepts q gs laid legal) e = let z : _≡_ {A = ℕ} 0 1 = cc in absurd (omega arith)
-    go r (refuses n at w h) e = let a : n ≡ number = cc in rw (← a) (w .0)
+    go r (refuses n at w h) e = let a : n ≡ number = cc in rw (← a) (never 0 refl w)
 
 module _ (p : Platform) (fs : List Flow) (held : List ℕ) where
   abbrev bytes : List ℕ
@@ -41,7 +42,7 @@ module _ (p : Platform) (fs : List Flow) (held : List ℕ) where
 
   -- What a writing comes to: a refusal by the reader, 11, or the plan in front of what the buffer held.
   data Came : Returned → List ℕ → Type 0 where
-    sent-back : (number place : ℕ) → 1 ≤ number → Came (refusedWith number place) held
+    sent-back : (number place : ℕ) → number ≢ 0 → Came (refusedWith number place) held
     no-room : Came (refusedWith 11 0) held
     whole : readPlan bytes .outcome ≡ Accepted → length bytes ≤ length held → Came (acceptedWith (length bytes)) (bytes ++ drop (length bytes) held)
 
@@ -55,7 +56,7 @@ module _ (p : Platform) (fs : List Flow) (held : List ℕ) where
 
   by-outcome : (o : Outcome) → readPlan bytes .outcome ≡ o → Came (returned p fs (length held)) (left p fs held)
   unfolding returnedBy leftBy
-  by-outcome (Refused number place) e = rw e (sent-back number place (numbered bytes e))
+  by-outcome (Refused number place) e = rw e (sent-back number place (not-accepted bytes e))
   by-outcome Accepted e = in-room e (decLt (length held) (length bytes))
 
   came : Came (returned p fs (length held)) (left p fs held)

@@ -25,6 +25,18 @@ Inv-records bytes at₀ platform₀ flows₀ ids₀ priorities₀ count₀ at pl
 abbrev μ-records : tie.MeasureT-records
 μ-records bytes at₀ platform₀ flows₀ ids₀ priorities₀ count₀ at platform flows ids priorities count = length bytes - at
 
+returns : tie.Need-returns Inv-loop μ-loop Inv-records μ-records
+returns c = c .refuse .ensures ∙ frame-refuses (c .before .before .before .before .before .records .inv) (sym (c .before .before .before .before .check-frame .ensures) ∙ c .before .before .number .given .1)
+
+returns-2 : tie.Need-returns-2 Inv-loop μ-loop Inv-records μ-records
+returns-2 c = c .refuse2 .ensures ∙ field-refuses (c .before .before .before .before .before .before .before .loop .inv) (c .before .before .before .before .before .before .loop-test .taken) (c .before .before .before .before .before .field-of .ensures) (c .before .before .before .before .number-at .ensures) (c .before .before .before .is-outside .ensures) (c .before .before .if1 .taken) (c .before .refusal-of .ensures)
+
+returns-3 : tie.Need-returns-3 Inv-loop μ-loop Inv-records μ-records
+returns-3 c = c .refuse3 .ensures ∙ rest-refuses (c .before .before .before .before .before .before .before .before .loop .inv) (c .before .before .before .before .before .before .before .loop-test .left) (c .before .before .before .before .check-rest .ensures) (c .before .before .rest .given .1)
+
+returns-4 : tie.Need-returns-4 Inv-loop μ-loop Inv-records μ-records
+returns-4 c = c .accept .ensures ∙ end-accepted (c .before .before .before .before .before .before .before .before .before .loop .inv) (c .before .before .before .before .before .before .before .before .loop-test .left) (c .before .before .before .before .before .check-rest .ensures) (c .before .before .before .enum-told .given .1) (c .before .enum-told4 .given .1)
+
 blank-platform-requires : tie.Need-blank-platform-requires Inv-loop μ-loop Inv-records μ-records
 blank-platform-requires c κs = search needs
 
@@ -67,8 +79,11 @@ number-at-requires c κs = field-inside (c .before .before .loop .inv .scan) (c 
 is-outside-requires : tie.Need-is-outside-requires Inv-loop μ-loop Inv-records μ-records
 is-outside-requires c κs = search needs
 
+refusal-of-requires : tie.Need-refusal-of-requires Inv-loop μ-loop Inv-records μ-records
+refusal-of-requires c κs = search needs
+
 add-refuse : tie.Need-add-refuse Inv-loop μ-loop Inv-records μ-records
-add-refuse c = omega (arith, field-inside (c .before .before .before .before .before .loop .inv .scan) (c .before .before .before .before .loop-test .taken) (c .before .before .before .field-of .ensures))
+add-refuse c = omega (arith, c .before .before .before .before .before .before .before .before .before .before .before .before .before .before .before .before .before .good, field-inside (c .before .before .before .before .before .before .loop .inv .scan) (c .before .before .before .before .before .loop-test .taken) (c .before .before .before .before .field-of .ensures))
 
 refuse-requires-2 : tie.Need-refuse-requires-2 Inv-loop μ-loop Inv-records μ-records
 refuse-requires-2 c κs = search needs
@@ -164,18 +179,6 @@ records-again c =
     (λ w. rw (w .3, w .4, w .5, w .6, w .7) (flow-taken (c .before .before .before .before .before .before .before .loop .inv) (c .before .before .before .before .before .before .loop-test .left) (c .before .before .before .check-rest .ensures) (c .before .enum-told .given .1) (w .1 .given .1) (w .2 .ensures)))
     (c .match3 .came)
 
-returns : tie.Need-returns Inv-loop μ-loop Inv-records μ-records
-returns c = c .refuse .ensures ∙ frame-refuses (c .before .before .before .before .before .records .inv) (sym (c .before .before .before .before .check-frame .ensures) ∙ c .before .before .number .given .1)
-
-returns-2 : tie.Need-returns-2 Inv-loop μ-loop Inv-records μ-records
-returns-2 c = c .refuse2 .ensures ∙ field-refuses (c .before .before .before .before .before .before .loop .inv) (c .before .before .before .before .before .loop-test .taken) (c .before .before .before .before .field-of .ensures) (c .before .before .before .number-at .ensures) (c .before .before .is-outside .ensures) (c .before .if1 .taken)
-
-returns-3 : tie.Need-returns-3 Inv-loop μ-loop Inv-records μ-records
-returns-3 c = c .refuse3 .ensures ∙ rest-refuses (c .before .before .before .before .before .before .before .before .loop .inv) (c .before .before .before .before .before .before .before .loop-test .left) (c .before .before .before .before .check-rest .ensures) (c .before .before .rest .given .1)
-
-returns-4 : tie.Need-returns-4 Inv-loop μ-loop Inv-records μ-records
-returns-4 c = c .accept .ensures ∙ end-accepted (c .before .before .before .before .before .before .before .before .before .loop .inv) (c .before .before .before .before .before .before .before .before .loop-test .left) (c .before .before .before .before .before .check-rest .ensures) (c .before .before .before .enum-told .given .1) (c .before .enum-told4 .given .1)
-
 pub read-spec : {M : Type 1} → statement M
 read-spec =
     tie.close
@@ -198,6 +201,7 @@ read-spec =
     add-number-at
     number-at-requires
     is-outside-requires
+    refusal-of-requires
     add-refuse
     refuse-requires-2
     bytes-of-requires
