@@ -49,30 +49,30 @@ static struct lingfallow_returned returned(uint8_t number, size_t value) {
 
 /* ---- reading */
 
-/* 5: the offset of the platform's first field outside its values, or 0. */
-static size_t platform_fault(const uint8_t *record) {
+/* 20 to 25: the number and the offset of the platform's first field outside its values, or 0. */
+static struct lingfallow_returned platform_fault(const uint8_t *record) {
     static const uint8_t lowest[PLATFORM_BODY] = {1, 1, 1, 0, 1, 0}, highest[PLATFORM_BODY] = {8, 8, 16, 16, 64, 3};
-    for (size_t k = 0; k < PLATFORM_BODY; k++) {
+    for (uint8_t k = 0; k < PLATFORM_BODY; k++) {
         uint8_t value = record[HEADER + k];
         if (value < lowest[k] || value > highest[k]) {
-            return HEADER + k;
+            return returned((uint8_t)(20 + k), HEADER + k);
         }
     }
-    return 0;
+    return returned(0, 0);
 }
 
-/* 5: the offset of the flow's first field outside its values, or 0. */
-static inline size_t flow_fault(const uint8_t *record, uint32_t nodes) {
+/* 30 to 38: the number and the offset of the flow's first field outside its values, or 0. */
+static inline struct lingfallow_returned flow_fault(const uint8_t *record, uint32_t nodes) {
     uint32_t period = four_at(record + 11), deadline = four_at(record + 15);
-    if (two_at(record + 3) == NO_FLOW) return 3;
-    if (two_at(record + 5) == 0) return 5;
-    if (record[7] >= nodes) return 7;
-    if (record[8] >= nodes) return 8;
-    if (two_at(record + 9) == 0) return 9;
-    if (period - 1 >= MOST_CYCLES) return 11;
-    if (deadline - 1 >= period) return 15;
-    if (four_at(record + 19) > MOST_CYCLES) return 19;
-    return 0;
+    if (two_at(record + 3) == NO_FLOW) return returned(30, 3);
+    if (two_at(record + 5) == 0) return returned(31, 5);
+    if (record[7] >= nodes) return returned(32, 7);
+    if (record[8] >= nodes) return returned(33, 8);
+    if (two_at(record + 9) == 0) return returned(34, 9);
+    if (period - 1 >= MOST_CYCLES) return returned(35, 11);
+    if (deadline - 1 >= period) return returned(deadline == 0 ? 36 : 38, 15);
+    if (four_at(record + 19) > MOST_CYCLES) return returned(37, 19);
+    return returned(0, 0);
 }
 
 static inline bool stands_in(const uint16_t *values, size_t count, uint16_t value) {
@@ -95,12 +95,12 @@ static inline uint8_t header_fault(const uint8_t *bytes, size_t length, size_t a
     return left - HEADER < body;
 }
 
-/* 6, 5, 9, 7, 8: a flow behind its header; it is kept. */
+/* 6, its fields, 9, 7, 8: a flow behind its header; it is kept. */
 static inline struct lingfallow_returned read_flow(const uint8_t *bytes, size_t at, struct reading *r) {
     const uint8_t *record = bytes + at;
     if (r->count == MOST_FLOWS) return returned(6, at);
-    size_t field = flow_fault(record, (uint32_t)bytes[3] * bytes[4]);
-    if (field != 0) return returned(5, at + field);
+    struct lingfallow_returned field = flow_fault(record, (uint32_t)bytes[3] * bytes[4]);
+    if (field.number != 0) return returned(field.number, at + field.value);
     if (record[7] == record[8]) return returned(9, at + 8);
     uint16_t id = (uint16_t)two_at(record + 3), priority = (uint16_t)two_at(record + 5);
     if (stands_in(r->id, r->count, id)) return returned(7, at + 3);
@@ -119,8 +119,8 @@ static struct lingfallow_returned read_plan(const uint8_t *bytes, size_t length,
             if (flow.number != 0) return flow;
             at += FLOW_SIZE;
         } else if (bytes[at] == PLATFORM_TAG) {
-            size_t field = platform_fault(bytes);
-            if (field != 0) return returned(5, field);
+            struct lingfallow_returned field = platform_fault(bytes);
+            if (field.number != 0) return field;
             at += PLATFORM_SIZE;
         } else if (at + HEADER < length) {
             return returned(10, at + HEADER);

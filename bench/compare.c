@@ -11,7 +11,7 @@
 enum { RANDOM_PLANS = 20000, HELD = 0xA5, SAMPLE = 100000, TURNS_FEWEST = 7, TURNS_MOST = 400 };
 static const double LONGEST = 1.5e9; /* nanoseconds for one plan, unless the fewest turns take longer */
 
-static unsigned outcomes[12]; /* how often each number was returned, 0 for acceptance */
+static unsigned outcomes[UINT8_MAX + 1]; /* how often each number was returned, 0 for acceptance */
 
 /* Each subject must return, and leave in the buffer, what the product does. */
 static void agree(const char *name, const uint8_t *bytes, size_t length, size_t reply_length) {
@@ -101,10 +101,10 @@ int main(int count, char **words) {
         }
         printf("\n");
     }
-    fprintf(stderr, "compare: %d subjects agree on %d plans and %d random ones; accepted, refused with 1, 2..:",
-            SUBJECTS, count - 1, RANDOM_PLANS);
-    for (int number = 0; number < 12; number++) {
-        fprintf(stderr, " %u", outcomes[number]);
+    fprintf(stderr, "compare: %d subjects agree on %d plans and %d random ones; accepted %u", SUBJECTS, count - 1,
+            RANDOM_PLANS, outcomes[0]);
+    for (int number = 1; number <= UINT8_MAX; number++) {
+        if (outcomes[number] != 0) fprintf(stderr, ", refused %d: %u", number, outcomes[number]);
     }
     fprintf(stderr, "\n");
     return 0;

@@ -46,12 +46,16 @@ static void put_flow(uint64_t *seed, uint8_t *out, uint32_t nodes, uint32_t plac
     put_number(out + 19, 4, draw(seed, 3) ? 0 : draw(seed, 2 * period));
 }
 
-/* A changed byte or tag, an id or a priority taken from the first flow, bytes cut off, or bytes behind the end. */
+/* A changed byte or tag, an id or a priority taken from the first flow, a flow's field all zeros or all ones, bytes cut
+ * off, or bytes behind the end.
+ */
 static size_t damage(uint64_t *seed, uint8_t *bytes, size_t length, uint32_t flows) {
     static const uint8_t tags[4] = {0x01, 0x02, 0x7F, 0x03};
+    static const uint8_t fields[9] = {3, 5, 7, 8, 9, 11, 15, 19, 23};
     uint32_t any = draw(seed, (uint32_t)length), flow = draw(seed, flows + 1);
     uint8_t *record = bytes + PLATFORM_SIZE + FLOW_SIZE * flow;
-    switch (draw(seed, 7)) {
+    const uint8_t *field = fields + draw(seed, 8);
+    switch (draw(seed, 8)) {
     case 0:
         bytes[any] = (uint8_t)draw(seed, 256);
         return length;
@@ -68,6 +72,9 @@ static size_t damage(uint64_t *seed, uint8_t *bytes, size_t length, uint32_t flo
         memmove(record + 5, bytes + PLATFORM_SIZE + 5, 2);
         return length;
     case 5:
+        memset(record + field[0], draw(seed, 2) ? 0 : 0xFF, field[1] - field[0]);
+        return length;
+    case 6:
         return any;
     default:
         return length + draw(seed, 4);
