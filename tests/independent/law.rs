@@ -76,6 +76,8 @@ rules! {
     FurtherWritten "further-written" "the byte after the reply's own is written";
     RefusalWrites "refusal-writes" "a refusal writes the first byte of the reply buffer";
     PlanWritten "plan-written" "the plan's last byte is written";
+
+    [TEXT]
     TextMethodAsked "text-method-asked" "the method printed is the one asked for";
     TextMeshRefused "text-mesh-refused" "the mesh line comes before a refusal";
     TextRowsFirst "text-rows-first" "the mesh is printed as rows by columns";
@@ -193,6 +195,15 @@ impl Law {
         self.planted.is_none()
     }
 
+    /// Whether it says something of the program's text that the library does not show.
+    pub fn concerns_text(&self) -> bool {
+        match self.planted {
+            Some(Plant::Rule(rule)) => is_in(TEXT, rule),
+            Some(_) => false,
+            None => true,
+        }
+    }
+
     pub fn breaks(&self, rule: Rule) -> bool {
         self.planted == Some(Plant::Rule(rule))
     }
@@ -295,7 +306,7 @@ fn rule_plants(rules: &'static [(Rule, &str, &str)]) -> impl Iterator<Item = Nam
 }
 
 fn analysing_plants() -> Vec<Named> {
-    let rules = rule_plants(ANALYSING).chain(rule_plants(NUMBERING));
+    let rules = rule_plants(ANALYSING).chain(rule_plants(TEXT)).chain(rule_plants(NUMBERING));
     let orders = (0..CHECKS.len() - 1).map(order_plant).chain(field_order_plants());
     let places = refusals().into_iter().map(|number| {
         (Plant::Place(number), format!("place-{number}"), format!("refusal {number} stands one byte later"))
