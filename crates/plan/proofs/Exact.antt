@@ -4,7 +4,7 @@ use native.Mathlib.Omega.{arith}
 use mathlib.Core.Path.{_≡_, refl, sym, ap, _∙_}
 use mathlib.Core.Bool.{false}
 use mathlib.Core.List.{List, [], _∷_, _++_, map}
-use mathlib.Core.Logic.{_↔_}
+use mathlib.Core.Logic.{_↔_, _≢_}
 use lib.ListN.{length, take}
 use lib.Seq.{take-at, take-all, take-suc, length-take-le, getD-take}
 use lib.Dec.{eqb}
@@ -28,6 +28,7 @@ use Rattle.plan.proofs.Frames.{frame-passes, end-passes}
 use Rattle.plan.proofs.Order.{record-rest, platform-leads, flow-leads, end-accepts}
 use Rattle.plan.proofs.Fields.{allowed-passed, legal-platform, legal-flow}
 use Rattle.plan.proofs.Growth.{found-none}
+use Rattle.plan.proofs.Numbered.{never}
 use Rattle.plan.proofs.Answered.{Lawful, accepts, refuses, answered}
 
 module _ (s : List ℕ) (p : Platform) (fs : List Flow) (laid : Laid s p fs) (legal : Legal p fs) where
@@ -121,6 +122,10 @@ refusal-listed s number pl = go (readPlan s) (answered s)
         let a : n ≡ number = cc in
         let b : at ≡ pl = cc in
         rw (← a, ← b) (w, h)
+
+-- "5 goes"
+pub five-gone : (s : List ℕ) (number pl : ℕ) → readPlan s ≡ refused number pl → number ≢ 5
+five-gone s number pl e = never 5 refl (refusal-listed s number pl e .0)
 
 pub accepted-exactly : (s : List ℕ) (p : Platform) (fs : List Flow) → (readPlan s ≡ accepted p fs) ↔ (Laid s p fs × Legal p fs)
 accepted-exactly s p fs = (accepted-laid s p fs, λ (laid, legal). laid-accepted s p fs laid legal)

@@ -29,13 +29,13 @@ use Rattle.plan.proofs.Order.{Framed, framed, flow-room, platform-first
 use Rattle.plan.proofs.Scan.{sizeOf, filled}
 
 -- the table of fields gives each the number that is listed at its place
-abbrev Numbered : List (ℕ × ℕ) → ℕ → List Field → Type 0
-Numbered lines offset [] = Unit {0}
-Numbered lines offset (f ∷ fs) =
+abbrev NumberedBy : List (ℕ × ℕ) → ℕ → List Field → Type 0
+NumberedBy lines offset [] = Unit {0}
+NumberedBy lines offset (f ∷ fs) =
     ((has lines (f .3) offset ≡ true) × (has lines (refusalAbove (highestOf f) (f .3)) offset ≡ true))
-    × Numbered lines (offset + bytesOf (width f)) fs
+    × NumberedBy lines (offset + bytesOf (width f)) fs
 
-numbered : (kind : Kind) → Numbered (refusalsOf kind) 3 (fieldsOf kind)
+numbered : (kind : Kind) → NumberedBy (refusalsOf kind) 3 (fieldsOf kind)
 numbered PlatformRecord = ((refl, refl), ((refl, refl), ((refl, refl), ((refl, refl), ((refl, refl), ((refl, refl), tt))))))
 numbered FlowRecord = ((refl, refl), ((refl, refl), ((refl, refl), ((refl, refl), ((refl, refl), ((refl, refl), ((refl, refl), ((refl, refl), tt))))))))
 numbered EndRecord = tt
@@ -115,7 +115,7 @@ module _ (s : List ℕ) where
         λ e. tagged (tagOf (tagAt s at)) (omega (arith, ltb-false (length s - at) 3 e))
 
     module _ {kind : Kind} (w : Framed s at kind count) where
-      fields : (l : Limits) (offset : ℕ) (fs : List Field) → Numbered (refusalsOf kind) offset fs → at + offset + sizeOf fs ≤ length s → Fair (fieldsFrom s at kind l offset fs)
+      fields : (l : Limits) (offset : ℕ) (fs : List Field) → NumberedBy (refusalsOf kind) offset fs → at + offset + sizeOf fs ≤ length s → Fair (fieldsFrom s at kind l offset fs)
       unfolding fieldsFrom
       fields l offset [] n h = tt
       fields l offset (f ∷ fs) (n, ns) h =
