@@ -2,7 +2,7 @@
 use Prim.Native.Nat.{ℕ, _+_, _-_, _≤_}
 use native.Mathlib.Omega.{arith}
 use mathlib.Core.Path.{_≡_, refl}
-use mathlib.Core.Bool.{Bool, true, false}
+use mathlib.Core.Bool.{Bool, true, false, false≢true}
 use mathlib.Core.List.{List, [], _∷_}
 use lib.ListN.{length}
 use lib.Dec.{eqb}
@@ -92,8 +92,8 @@ module _ (s : List ℕ) where
         rw q (of-end count number offset few m)
 
     of-65th : (kind : Kind) → misplaced (eqb at 0) kind ≡ false → noRoom kind count ≡ true → Listed 6 at
-    of-65th PlatformRecord m r = absurd (let z : _≡_ {A = ℕ} 0 1 = cc in omega arith)
-    of-65th EndRecord m r = absurd (let z : _≡_ {A = ℕ} 0 1 = cc in omega arith)
+    of-65th PlatformRecord m r = absurd (false≢true r)
+    of-65th EndRecord m r = absurd (false≢true r)
     of-65th FlowRecord m r =
         let (e, few) = behind (eqb-false at 0 (first-only (eqb at 0) FlowRecord m)) in
         let q : at ≡ place 64 = omega (arith, e, few, leb-true 64 count r) in
