@@ -132,11 +132,16 @@ static struct lingfallow_returned read_plan(const uint8_t *bytes, size_t length,
 
 /* ---- verdicts and rounds */
 
-/* Replaces x by the right side until it stays as it is or passes the deadline. A sum of shift and x fits 32 bits. */
-static inline bool settle(uint32_t c, uint32_t deadline, const struct term *terms, size_t n, uint32_t *bound,
+/* What a bound is held against: the deadline less the flow's own jitter. */
+static inline uint32_t limit_of(uint32_t deadline, uint32_t jitter) {
+    return jitter < deadline ? deadline - jitter : 0;
+}
+
+/* Replaces x by the right side until it stays as it is or passes the limit. A sum of shift and x fits 32 bits. */
+static inline bool settle(uint32_t c, uint32_t limit, const struct term *terms, size_t n, uint32_t *bound,
                           uint32_t *rounds) {
     *rounds = 0;
-    if (c > deadline) return false;
+    if (c > limit) return false;
     uint32_t x = c, replaced = 0;
     uint64_t right;
     for (;;) {
@@ -145,7 +150,7 @@ static inline bool settle(uint32_t c, uint32_t deadline, const struct term *term
             right += (uint64_t)((x + terms[j].shift) / terms[j].period) * terms[j].weight;
         }
         replaced++;
-        if (right == x || right > deadline) break;
+        if (right == x || right > limit) break;
         x = (uint32_t)right;
     }
     *bound = x;

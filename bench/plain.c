@@ -17,7 +17,7 @@ struct work {
     unsigned method, cap; /* the cap is for one shared link */
     uint8_t shared[MOST_FLOWS][MOST_FLOWS], first[MOST_FLOWS][MOST_FLOWS];
     uint64_t direct[MOST_FLOWS], unbounded;
-    uint32_t latency[MOST_FLOWS], period[MOST_FLOWS], deadline[MOST_FLOWS], jitter[MOST_FLOWS];
+    uint32_t latency[MOST_FLOWS], period[MOST_FLOWS], limit[MOST_FLOWS], jitter[MOST_FLOWS];
     uint32_t bound[MOST_FLOWS], hits[MOST_FLOWS][MOST_FLOWS];
 };
 
@@ -164,7 +164,7 @@ static inline void answer(struct work *w, size_t i, const struct reading *r, con
     for (uint64_t set = w->direct[i]; set != 0; set &= set - 1) {
         terms[n++] = term_of(w, i, lowest(set));
     }
-    if (settle(w->latency[i], w->deadline[i], terms, n, &w->bound[i], &rounds)) {
+    if (settle(w->latency[i], w->limit[i], terms, n, &w->bound[i], &rounds)) {
         hits_on(w, i);
         put_answer(out, id, LINGFALLOW_BOUNDED, NO_FLOW, w->bound[i], rounds);
     } else {
@@ -182,8 +182,8 @@ static void take_flows(struct work *w, struct routes *routes, const uint8_t *byt
         put_route(routes, i, columns, record[7], record[8]);
         w->latency[i] = link * (two_at(record + 9) + routes->exit[i]) + routing * routes->exit[i];
         w->period[i] = four_at(record + 11);
-        w->deadline[i] = four_at(record + 15);
         w->jitter[i] = four_at(record + 19);
+        w->limit[i] = limit_of(four_at(record + 15), w->jitter[i]);
     }
 }
 

@@ -231,8 +231,8 @@ static struct answer judge(const struct work *w, size_t i) {
     for (size_t j = 0; j < w->count; j++) {
         if (is_direct(w, i, j)) terms[n++] = term_of(w, i, j);
     }
-    uint32_t bound, rounds;
-    if (settle(w->latency[i], w->flows[i].deadline, terms, n, &bound, &rounds)) {
+    uint32_t bound, rounds, limit = limit_of(w->flows[i].deadline, w->flows[i].jitter);
+    if (settle(w->latency[i], limit, terms, n, &bound, &rounds)) {
         return (struct answer){LINGFALLOW_BOUNDED, NO_FLOW, bound, rounds};
     }
     return (struct answer){LINGFALLOW_LATE, NO_FLOW, 0, rounds};

@@ -32,6 +32,10 @@ extern "C" {
  *        6     2  named flow: if it waits, the id of its unbounded direct flow of highest priority; otherwise FFFF hex
  *        8     4  bound: if it is bounded, its worst-case response time in clock cycles; otherwise 0
  *       12     4  rounds: how often the recurrence was applied; 0 if it waits, or if its unloaded latency alone is late
+ *
+ * A deadline runs from the tick, a bound from the packet's release, which is up to the flow's jitter after the tick. So
+ * a flow is bounded only if its bound plus its jitter is at most its deadline; it is late with 0 rounds if it does not
+ * wait and its unloaded latency plus its jitter is above its deadline, as with any jitter not below the deadline.
  */
 #define LINGFALLOW_BOUNDED 0
 #define LINGFALLOW_LATE 1
@@ -85,7 +89,7 @@ struct lingfallow_returned {
  * It asks nothing of the bytes and nothing of the two lengths: every input is accepted or refused as above. What it
  * returns and writes hangs on the plan's bytes and on reply_length alone. It always ends; its time grows with the
  * rounds, which for each flow are at most 2 + the sum over its direct flows j of
- * (deadline - unloaded latency) / period of j, each rounded up.
+ * (deadline - jitter - unloaded latency) / period of j, each rounded up, where less than 0 counts as 0.
  *
  * Of the pointers it asks that plan points to plan_length bytes that may be read, reply to reply_length bytes that may
  * be written, that the two do not overlap, and that nothing else writes to either during the call. Through the pointer
@@ -120,8 +124,8 @@ struct lingfallow_flow {
     uint8_t destination; /* below columns x rows, and not the source */
     uint16_t flits;      /* 1 to 65,535 */
     uint32_t period;     /* cycles: 1 to 1,000,000,000 */
-    uint32_t deadline;   /* cycles: 1 to the period */
-    uint32_t jitter;     /* cycles: 0 to 1,000,000,000 */
+    uint32_t deadline;   /* cycles from the tick: 1 to the period */
+    uint32_t jitter;     /* cycles from the tick to the release at most: 0 to 1,000,000,000 */
 };
 
 struct lingfallow_plan {

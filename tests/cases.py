@@ -156,19 +156,19 @@ class Analysis:
         if stuck:
             return 2, min(stuck, key=lambda j: self.flows[j][1]), 0, 0
         terms = [self.term(i, j) for j in self.direct(i)]
-        latency, deadline = self.latency(i), self.flows[i][6]
+        latency, limit = self.latency(i), self.flows[i][6] - self.flows[i][7]  # below 0 for a jitter above the deadline
 
         def right_side(x):
             return latency + sum(up(x + shift, period) * weight for shift, period, weight in terms)
 
         rounds, x, bound = 0, latency, None
-        while x <= deadline and bound is None:
+        while x <= limit and bound is None:
             rounds, new = rounds + 1, right_side(x)
             if new == x:
                 bound = x
             x = new
-        if deadline <= 3000:
-            assert bound == next((y for y in range(deadline + 1) if right_side(y) == y), None)
+        if limit <= 3000:
+            assert bound == next((y for y in range(limit + 1) if right_side(y) == y), None)
         return (1, 65535, 0, rounds) if bound is None else (0, 65535, bound, rounds)
 
 
@@ -299,6 +299,28 @@ def figures():
         yield [(8, bytes([method])), (9 + 7, b"\0\1")], 5, (0, none, 336, 2)
 
 
+def tick_figures():
+    """Document 02's L3: jitters for the flows 2, 3 and 5 of P, and their verdict, named flow, bound and rounds."""
+    none = 65535
+    two, three, five = (0, none, 62, 1), (0, none, 328, 2), (0, none, 396, 2)
+    waits = (2, 3, 0, 0)
+
+    def late(rounds):
+        return 1, none, 0, rounds
+
+    yield (138, 0, 0), (two, (0, none, 390, 3), (0, none, 426, 2))  # 62 + 138 is the deadline
+    yield (139, 0, 0), (late(0), (2, 2, 0, 0), waits)
+    yield (0, 3672, 0), (two, three, (0, none, 660, 3))  # 328 + 3672 is the deadline
+    yield (0, 3673, 0), (two, late(1), waits)
+    yield (0, 3796, 0), (two, late(1), waits)  # 204 + 3796 is the deadline
+    yield (0, 3797, 0), (two, late(0), waits)
+    yield (0, 0, 5604), (two, three, five)  # 396 + 5604 is the deadline
+    yield (0, 0, 5605), (two, three, late(1))
+    for jitter in (6000, 6001, BILLION):  # the deadline, and above it
+        yield (0, 0, jitter), (two, three, late(0))
+        yield (0, 4000, jitter), (two, late(0), waits)
+
+
 def paper_tables():
     """Tables II and IV of Indrusiak, Burns and Nikolic, on a line; in the last flow's deadline there is room for its bound."""
     first = [flow(6, 1, 0, 1, 12, 1000, 1000), flow(7, 2, 1, 2, 50, 208, 208), flow(8, 3, 0, 2, 100, 257, 257), flow(9, 4, 1, 2, 50, 1000, 1000)]
@@ -313,6 +335,10 @@ def published_cases():
     for changes, ident, expected in figures():
         data = changed(P, *changes)
         assert answers_of(data)[ident] == expected, (changes, ident, answers_of(data)[ident])
+        yield data
+    for jitters, expected in tick_figures():
+        data = changed(P, *((start + 19, u(4, jitter)) for start, jitter in zip(P_STARTS[1:4], jitters)))
+        assert tuple(answers_of(data).values()) == expected, (jitters, answers_of(data), expected)
         yield data
     for data, bounds in paper_tables():
         assert tuple(answer[2] for answer in answers_of(data).values()) == bounds, (answers_of(data), bounds)
@@ -329,8 +355,22 @@ def busy_cases():
         for k in range(count):
             ends = chance.sample(range(columns * rows), 2)
             period = chance.randint(50, 3000)
-            flows.append(flow(k, priorities[k], ends[0], ends[1], chance.randint(1, 40), period, chance.randint(period // 2, period), chance.choice((0, 0, chance.randint(0, 2000)))))
+            flows.append(flow(k, priorities[k], ends[0], ends[1], chance.randint(1, 40), period, chance.randint(period // 2, period), chance.choice((0, chance.randint(0, period // 3), chance.randint(0, 2000)))))
         yield platform(columns, rows, chance.randint(1, 4), chance.randint(0, 3), chance.randint(1, 12), chance.randint(0, 3)) + b"".join(flows) + END_RECORD
+
+
+def tick_cases():
+    """Random plans in which one flow's jitter is about what its deadline leaves, by its bound or by its unloaded latency."""
+    chance = random.Random(SEED + 2)
+    for data in busy_cases():
+        platform_values, flows = read(data)
+        before = Analysis(platform_values, flows)
+        busiest = max(range(len(flows)), key=lambda k: before.answers[flows[k][0]][3])
+        place = chance.choice((busiest, chance.randrange(len(flows))))
+        ident, deadline = flows[place][0], flows[place][6]
+        taken = chance.choice((before.answers[ident][2], before.latency(ident), 0))
+        jitter = max(deadline - taken + chance.randint(-1, 1), 0)
+        yield changed(data, (9 + 23 * place + 19, u(4, jitter)))
 
 
 def random_cases():
@@ -342,7 +382,8 @@ def random_cases():
         for k in range(chance.randint(0, 9)):
             ends = chance.sample(range(nodes), 2)
             period = chance.randint(1, BILLION)
-            flows.append(flow(10 * k + chance.randint(0, 11), 5 * k + chance.randint(1, 6), ends[0], ends[1], chance.randint(1, 65535), period, chance.randint(1, period), chance.randint(0, BILLION)))
+            jitter = chance.choice((chance.randint(0, period // 3), chance.randint(0, BILLION)))
+            flows.append(flow(10 * k + chance.randint(0, 11), 5 * k + chance.randint(1, 6), ends[0], ends[1], chance.randint(1, 65535), period, chance.randint(1, period), jitter))
         data = platform(columns, rows, chance.randint(1, 16), chance.randint(0, 16), chance.randint(1, 64), chance.randint(0, 3)) + b"".join(flows) + END_RECORD
         for _ in range(chance.randint(0, 2)):
             data = changed(data, (chance.randrange(len(data)), bytes([chance.choice((0, 1, 2, 0x7F, 0xFF, chance.randrange(256)))])))
@@ -350,7 +391,7 @@ def random_cases():
 
 
 def main():
-    plans = [*framing_cases(), *field_cases(), *clash_cases(), *published_cases(), *busy_cases(), *random_cases()]
+    plans = [*framing_cases(), *field_cases(), *clash_cases(), *published_cases(), *busy_cases(), *random_cases(), *tick_cases()]
     lines = [line(data) for data in plans]
     seen = {int(text.split()[0]) for text in lines}
     outcomes = {*range(5), *range(6, 11), *range(20, 26), *range(30, 39)}

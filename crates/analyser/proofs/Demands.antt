@@ -1,6 +1,7 @@
 -- The tender's three conditions of acceptance, of any bytes offered as a plan and any buffer lent for the reply.
 -- `analyse` promises to return `returned bytes (length held)` and to leave `left bytes held` in the buffer that held `held`.
 -- The words of these statements: `Laid`, `Legal` and `Listed` of plan's specs, `Right` of model's specs/Rules, and this crate's specs/Records.
+-- By document 02 (L3) the deadline of demands 2 and 3 is the deadline less the flow's own jitter, `limit` of model's specs/Latency.
 use Prim.Native.Nat.{ℕ, _+_, _-_, _*_, _≤_, _<_}
 use mathlib.Core.Path.{_≡_, refl, sym, ap, _∙_}
 use mathlib.Core.Logic.{_↔_, _≢_, Iff·trans}
@@ -33,11 +34,12 @@ use Rattle.model.specs.Verdicts.{recurrenceOf, packetsIn, boundIn, roundsIn, ve
 use Rattle.model.specs.Rules.{Unbounded, AllBounded, IsWaiting, Right}
 use Rattle.model.proofs.Verdicts.{right, right-once}
 use Rattle.model.proofs.FlowLines.{answer-at, verdict-line, rounds-line}
+use Rattle.model.proofs.Ticks.{no-jitter, tick-line}
 use Rattle.reply.specs.Reply.{replyBytes}
 use Rattle.analyser.specs.Analysed.{returned, left}
 use Rattle.analyser.specs.Records.{answerLines, idAt, verdictAt, namedAt, boundAt, roundsAt, Holds}
 use Rattle.analyser.proofs.Replying.{Replied}
-use Rattle.analyser.proofs.Records.{tells-bounded, tells-late, tells-waits, tells-names, tells-only}
+use Rattle.analyser.proofs.Records.{tells-bounded, tells-rounds, tells-late, tells-waits, tells-names, tells-only}
 use Rattle.analyser.proofs.Bytes.{same-buffer, reply-bytes}
 use Rattle.analyser.proofs.Deciding.{refused-returned, short-returned, reply-returned, right-lines, held-reply}
 
@@ -64,7 +66,7 @@ pub record Figures (p : Platform) (fs : List Flow) (answer : Flow → Verdict) (
   -- "For each flow, in plan order: tag 81, length 13, id (2)"
   pub headed : Headed is (16 * k) 0x81 13
   pub id : idAt is k ≡ i .id
-  -- "A bounded flow gets the least whole number that solves its recurrence within its deadline."
+  -- "A bounded flow gets the least whole number that solves its recurrence within its deadline" less its jitter.
   pub bounded : (r : ℕ) → ((verdictAt is k ≡ 0) × (boundAt is k ≡ r)) ↔ (AllBounded p fs answer i × Bound (recurrenceOf p fs answer i) (limit i) r)
   -- "It is called late exactly if no such number exists and all its direct interferers are bounded;
   pub late : (verdictAt is k ≡ 1) ↔ (AllBounded p fs answer i × NoBound (recurrenceOf p fs answer i) (limit i))
@@ -86,18 +88,29 @@ pub record Demand2 (p : Platform) (fs : List Flow) (answer : Flow → Verdict) (
 
 -- ==== demand 3: the rounds in record k, for flow i. "Rounds are stated over the recurrence of demand 2."
 pub record Demand3 (p : Platform) (fs : List Flow) (answer : Flow → Verdict) (i : Flow) (is : List ℕ) (k : ℕ) : Type 0 where
-  -- "the evaluations of its recurrence, starting at its unloaded latency, until a value repeats or passes the deadline;
+  -- "the evaluations of its recurrence, starting at its unloaded latency, until a value repeats or passes the deadline" less the jitter; "
   pub exactly : AllBounded p fs answer i → (n : ℕ) → (roundsAt is k ≡ n) ↔ Rounds (recurrenceOf p fs answer i) (latency p i) (limit i) n
   -- zero for a flow that waits
   pub waiting : verdictAt is k ≡ 2 → roundsAt is k ≡ 0
-  -- or whose unloaded latency is above its deadline."
+  -- or whose unloaded latency is above its deadline" less its jitter.
   pub too-long : limit i < latency p i → roundsAt is k ≡ 0
-  -- "at most two plus, for each direct interferer, the deadline less the unloaded latency, divided by that interferer's period and rounded up"
+  -- "at most two plus, for each direct interferer, the deadline" less the jitter "less the unloaded latency, divided by that interferer's period and rounded up"
   pub plan : roundsAt is k ≤ 2 + sumOver (those (directFor p i) fs) (λ j. up (limit i - latency p i) (j .period))
   -- "For a bounded flow it is also at most two more than the growth in interfering packets from unloaded latency to bound,
   pub bounded : verdictAt is k ≡ 0 → roundsAt is k + packetsIn p fs answer i (latency p i) ≤ 2 + packetsIn p fs answer i (boundAt is k)
-  -- for a late one whose unloaded latency is not above its deadline at most one more than that growth up to the deadline."
+  -- for a late one whose unloaded latency is not above its deadline" less its jitter "at most one more than that growth up to the deadline" less the jitter.
   pub late : verdictAt is k ≡ 1 → latency p i ≤ limit i → roundsAt is k + packetsIn p fs answer i (latency p i) ≤ 1 + packetsIn p fs answer i (limit i)
+
+-- ==== "Deadlines run from the tick" (document 02, L3): record k for flow i, with the jitter added and nothing taken away, so that none is hidden
+pub record FromTick (p : Platform) (fs : List Flow) (answer : Flow → Verdict) (i : Flow) (is : List ℕ) (k : ℕ) : Type 0 where
+  -- "up to the jitter is already gone when the packet is released": a bounded flow's jitter and bound together are at most its deadline.
+  pub met : verdictAt is k ≡ 0 → boundAt is k + i .jitter ≤ i .deadline
+  -- For a late one, whatever solves its recurrence is with the jitter above the deadline.
+  pub missed : verdictAt is k ≡ 1 → (x : ℕ) → recurrenceOf p fs answer i x ≡ x → i .deadline < x + i .jitter
+  -- "if C plus jitter is above the deadline, a flow that doesn't wait is late with zero rounds", and only then.
+  pub at-once : verdictAt is k ≢ 2 → ((verdictAt is k ≡ 1) × (roundsAt is k ≡ 0)) ↔ (i .deadline < latency p i + i .jitter)
+  -- Without jitter it is the deadline that demands 2 and 3 name.
+  pub no-jitter : i .jitter ≡ 0 → limit i ≡ i .deadline
 
 -- ==== the theorems, for every byte string and every buffer
 module _ (bytes held : List ℕ) where
@@ -171,6 +184,22 @@ module _ (bytes held : List ℕ) where
           plan = rw (t .rounds) (d .plan);
           bounded = λ e. let (n, q) = tells-bounded v (boundIn v) .0 (sym (t .verdict) ∙ e, refl) in rw (t .rounds, t .bound, ap roundsIn q) (d .bounded (boundIn v) n q);
           late = λ e h. let (n, q) = tells-late v .0 (sym (t .verdict) ∙ e) in rw (t .rounds, ap roundsIn q) (d .late h n q);
+        }
+
+    -- Document 02, L3. It excludes a deadline that is met from the release only.
+    pub from-tick : (k : ℕ) → k < length fs → FromTick p fs (verdict p fs) (flow fs k) (left bytes held) k
+    from-tick k l =
+        let v = verdict p fs (flow fs k) in
+        let a = answerTo p fs (flow fs k) in
+        let t = read-back .each k l in
+        let d = rw (answer-at p fs a k l) at (tick-line bytes p fs is-plan a k l) in
+        record {
+          met = λ e. let (n, q) = tells-bounded v (boundIn v) .0 (sym (t .verdict) ∙ e, refl) in rw (t .bound) (d .met (boundIn v) n q);
+          missed = λ e. let (n, q) = tells-late v .0 (sym (t .verdict) ∙ e) in d .missed n q;
+          at-once = λ moves.
+              let free : AllBounded p fs (verdict p fs) (flow fs k) = λ m u. moves (demand-2 .each k l .waits .1 (m, u)) in
+              rw (t .verdict, t .rounds) (Iff·trans (tells-rounds v 0) (d .at-once free));
+          no-jitter = no-jitter (flow fs k);
         }
 
     -- The numbers decide the bytes: a buffer whose records tell right answers is the one that is left.

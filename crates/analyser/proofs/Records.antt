@@ -13,7 +13,7 @@ use Rattle.framing.proofs.Stands.{Stands, two, four, header}
 use Rattle.model.specs.declared.Verdict.{Verdict}
 use Rattle.model.specs.declared.Verdict.the-variants.{Bounded, Late, Waits}
 use Rattle.model.specs.declared.Answer.{Answer}
-use Rattle.model.specs.Verdicts.{verdictNumber, namedFlow, boundIn}
+use Rattle.model.specs.Verdicts.{verdictNumber, namedFlow, boundIn, roundsIn}
 use Rattle.reply.specs.Reply.{recordOf, replyBytes}
 use Rattle.reply.proofs.Writing.{length-record, length-records}
 use Rattle.reply.proofs.Theorems.{Fits, read-back}
@@ -49,13 +49,16 @@ tells-bounded v r = (go v, λ (n, e). (ap verdictNumber e, ap boundIn e))
     go (Late n) (e, f) = absurd (omega arith)
     go (Waits id) (e, f) = absurd (omega arith)
 
-pub tells-late : (v : Verdict) → (verdictNumber v ≡ 1) ↔ ((n : ℕ) × (v ≡ Late n))
-tells-late v = (go v, λ (n, e). ap verdictNumber e)
+pub tells-rounds : (v : Verdict) (n : ℕ) → ((verdictNumber v ≡ 1) × (roundsIn v ≡ n)) ↔ (v ≡ Late n)
+tells-rounds v n = (go v, λ e. (ap verdictNumber e, ap roundsIn e))
   where
-    go : (v : Verdict) → verdictNumber v ≡ 1 → (n : ℕ) × (v ≡ Late n)
-    go (Bounded r n) e = absurd (omega arith)
-    go (Late n) e = (n, refl)
-    go (Waits id) e = absurd (omega arith)
+    go : (v : Verdict) → (verdictNumber v ≡ 1) × (roundsIn v ≡ n) → v ≡ Late n
+    go (Bounded r m) (e, f) = absurd (omega arith)
+    go (Late m) (e, f) = ap Late f
+    go (Waits id) (e, f) = absurd (omega arith)
+
+pub tells-late : (v : Verdict) → (verdictNumber v ≡ 1) ↔ ((n : ℕ) × (v ≡ Late n))
+tells-late v = (λ e. (roundsIn v, tells-rounds v (roundsIn v) .0 (e, refl)), λ (n, e). ap verdictNumber e)
 
 pub tells-names : (v : Verdict) (id : ℕ) → ((verdictNumber v ≡ 2) × (namedFlow v ≡ id)) ↔ (v ≡ Waits id)
 tells-names v id = (go v, λ e. (ap verdictNumber e, ap namedFlow e))

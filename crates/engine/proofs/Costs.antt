@@ -27,10 +27,3 @@ module _ {p : Platform} {f : Flow} (a : LegalPlatform p) (w : LegalFlow p f) {li
     latency-is l r =
         let n : flits + (links - 1) ≡ flitsSent p f + length (routeOf p f) - 1 = omega (arith, links-some) in
         rw (n, l, r, e)
-
--- A latency is not 0: a flit passes a link.
-pub latency-some : {p : Platform} {f : Flow} → LegalPlatform p → LegalFlow p f → 1 ≤ latency p f
-unfolding latency
-latency-some {p} {f} a w =
-    let n : 1 ≤ flitsSent p f + length (routeOf p f) - 1 = omega (arith, route-within a w) in
-    omega (arith, mul-le-mul {n₁ = 1} {m₁ = 1} {n₂ = p .link} {m₂ = flitsSent p f + length (routeOf p f) - 1} (a .link .0) n)

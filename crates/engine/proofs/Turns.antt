@@ -25,7 +25,7 @@ use Rattle.model.specs.Verdicts.{boundIn, isBounded, settledVerdict, termsOf, r
 use Rattle.model.specs.Rules.{Unbounded, AllBounded}
 use Rattle.model.proofs.Judged.{direct-above, says-settled, says-once}
 use Rattle.model.proofs.Verdicts.{verdict-says}
-use Rattle.model.proofs.Fits.{latency-small, latency-within, limit-period, bound-said, bound-within, either, terms-fair}
+use Rattle.model.proofs.Fits.{latency-small, latency-some, latency-within, limit-period, bound-said, bound-within, either, terms-fair}
 use Rattle.pairs.specs.Scene.{Scene}
 use Rattle.engine.specs.declared.rows.Row.{Row}
 use Rattle.engine.specs.declared.terms.Way.{Way}
@@ -37,7 +37,6 @@ use Rattle.engine.specs.Search.{Highest}
 use Rattle.engine.specs.Solving.{termAt, Lawful, Solvable}
 use Rattle.engine.specs.Working.{boundFor, manyFor, ListsAre, FiguresAre, Known}
 use Rattle.engine.proofs.Scenes.{zeros, scene-long, scene-at, scene-read, scene-flow}
-use Rattle.engine.proofs.Costs.{latency-some}
 use Rattle.engine.proofs.Places.{At, listed-inside, listed-where, listed-flows, map-along, sum-listed}
 use Rattle.engine.proofs.Thirds.{third-idle}
 use Rattle.engine.proofs.Pairings.{Paired, loads-small, term-is}

@@ -9,11 +9,15 @@ use crate::numbers::wide16;
 use plan::Flow;
 use plan::Platform;
 
-// What a bound is held against.
+// What a bound is held against: the deadline less the jitter, and nothing where the jitter is above it.
 pub(crate) fn limit(f: Flow) -> u32
     ensures { λ r. ⌜ r ≡ limit-of f ⌝ }
 {
-    f.deadline
+    if f.jitter < f.deadline {
+        f.deadline - f.jitter
+    } else {
+        0
+    }
 }
 
 // The flits that the unloaded latency is worked out from.

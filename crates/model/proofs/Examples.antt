@@ -89,6 +89,10 @@ both-sides = flow 1 1 0 1 8 100 100 0 ∷ flow 2 2 4 5 18 100 100 0 ∷ flow 3 3
 abbrev no-order : List Flow
 no-order = flow 1 1 3 5 7 1000 1000 0 ∷ flow 2 2 0 5 44 100 100 0 ∷ flow 3 3 1 4 36 1000 1000 0 ∷ []
 
+-- "Deadlines run from the tick": P's flows with these jitters. Their C is 62, 204 and 132, their bounds in P are 62, 328 and 396.
+abbrev jittered : ℕ → ℕ → ℕ → List Flow
+jittered two three five = flow 2 1 4 5 60 200 200 two ∷ flow 3 2 0 5 198 4000 4000 three ∷ flow 5 3 1 4 128 6000 6000 five ∷ []
+
 abbrev table : List Example
 table =
     -- 13; 13 + 13; 24 + 13 + 13, and flow 1, direct for flow 3 too, is no part of flow 2's weight
@@ -124,6 +128,23 @@ table =
     ∷ example (line 1 0)
     (flow 90 9 1 4 36 100 39 0 ∷ flow 50 5 3 4 5 100 100 0 ∷ flow 30 3 2 4 50 100 10 0 ∷ flow 70 7 3 4 5 100 100 0 ∷ flow 20 2 5 0 50 100 10 0 ∷ flow 10 1 1 2 1 100 100 0 ∷ [])
     (Waits 30 ∷ Waits 30 ∷ Late 0 ∷ Waits 30 ∷ Late 0 ∷ Bounded 3 1 ∷ [])
+    -- just met, by C: 62 + 138; the jitter brings flow 3 a third packet, up((390 + 138) / 200), and flow 5 a third hit
+    ∷ example (line 10 3) (jittered 138 0 0) (Bounded 62 1 ∷ Bounded 390 3 ∷ Bounded 426 2 ∷ [])
+    -- just missed
+    ∷ example (line 10 3) (jittered 139 0 0) (Late 0 ∷ Waits 2 ∷ Waits 3 ∷ [])
+    -- just met, by the bound: 328 + 3672; the jitter brings flow 5 a second packet, up((660 + 124 + 3672) / 4000)
+    ∷ example (line 10 3) (jittered 0 3672 0) (Bounded 62 1 ∷ Bounded 328 2 ∷ Bounded 660 3 ∷ [])
+    -- just missed
+    ∷ example (line 10 3) (jittered 0 3673 0) (Bounded 62 1 ∷ Late 1 ∷ Waits 3 ∷ [])
+    -- C and jitter together are the deadline, and one more: the last jitter with a round, and the first without
+    ∷ example (line 10 3) (jittered 0 3796 0) (Bounded 62 1 ∷ Late 1 ∷ Waits 3 ∷ [])
+    ∷ example (line 10 3) (jittered 0 3797 0) (Bounded 62 1 ∷ Late 0 ∷ Waits 3 ∷ [])
+    -- a jitter equal to the deadline, above it, and the largest
+    ∷ example (line 10 3) (jittered 0 0 6000) (Bounded 62 1 ∷ Bounded 328 2 ∷ Late 0 ∷ [])
+    ∷ example (line 10 3) (jittered 0 0 6001) (Bounded 62 1 ∷ Bounded 328 2 ∷ Late 0 ∷ [])
+    ∷ example (line 10 3) (jittered 0 0 1_000_000_000) (Bounded 62 1 ∷ Bounded 328 2 ∷ Late 0 ∷ [])
+    -- a flow that waits, its own jitter above its deadline
+    ∷ example (line 10 3) (jittered 0 4001 6001) (Bounded 62 1 ∷ Late 0 ∷ Waits 3 ∷ [])
     ∷ []
 
 examples : map (λ e. map (λ a. a .verdict) (answers (e .platform) (e .flows))) table ≡ map (λ e. e .verdicts) table

@@ -26,7 +26,7 @@ use Rattle.model.specs.Interference.{directFor, indirectFor, comesBefore
 use Rattle.model.specs.Delays.{hits, hitSum, buffered, allowance, weight, term, terms}
 use Rattle.model.specs.Verdicts.{boundIn, isBounded, termsOf, recurrenceOf}
 use Rattle.model.specs.Rules.{AllBounded, Says}
-use Rattle.model.proofs.Links.{ends}
+use Rattle.model.proofs.Links.{ends, route-within}
 use Rattle.model.proofs.Judged.{and-left}
 
 -- ---- latencies and hits are small
@@ -42,6 +42,13 @@ module _ {p : Platform} {f : Flow} (lp : LegalPlatform p) (l : LegalFlow p f) wh
       let a : p .link * (flitsSent p f + length (routeOf p f) - 1) ≤ 16 * 65550 = mul-le-mul {n₂ = 16} {m₂ = 65550} (lp .link .1) (omega (arith, flits-few)) in
       let b : p .routing * (length (routeOf p f) - 1) ≤ 16 * 15 = mul-le-mul {n₂ = 16} {m₂ = 15} (lp .routing .1) (omega arith) in
       omega arith
+
+  -- A latency is not 0: a flit passes a link.
+  pub latency-some : 1 ≤ latency p f
+  unfolding latency
+  latency-some =
+      let n : 1 ≤ flitsSent p f + length (routeOf p f) - 1 = omega (arith, route-within lp l) in
+      omega (arith, mul-le-mul {n₁ = 1} {m₁ = 1} {n₂ = p .link} {m₂ = flitsSent p f + length (routeOf p f) - 1} (lp .link .0) n)
 
 -- ---- the hits of some flows cost no more than the packets of more flows
 -- A term whose delay a flow's hits times its cost do not exceed.
@@ -139,9 +146,9 @@ module _ (p : Platform) (fs : List Flow) (bound : Flow → ℕ) (m : Method) (j 
   weight-within XLWX i = downstream-within i (latency p) (λ k. le-refl _)
   weight-within IBN i = downstream-within i (λ k. min (latency p k) (buffered p i j)) (λ k. omega arith)
 
--- "the bound is at most its period": the one place where the limit meets the deadline
+-- "the bound is at most its period": the deadline is, and the limit is at most the deadline.
 pub limit-period : {p : Platform} {j : Flow} → LegalFlow p j → limit j ≤ j .period
-limit-period l = l .deadline .1
+limit-period l = omega (arith, l .deadline)
 
 -- What a bounded flow's answer says.
 pub bound-said :

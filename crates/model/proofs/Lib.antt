@@ -6,5 +6,6 @@ pub mod Verdicts
 pub mod Fits
 pub mod Sides
 pub mod FlowLines
+pub mod Ticks
 pub mod Figures
 mod Examples

@@ -1,4 +1,4 @@
--- Document 01, "The plan's bytes" and "Routes and shared links": the method really used, the unloaded latency, and what a bound is held against.
+-- Document 01, "The plan's bytes" and "Routes and shared links", and document 02, L3: the method really used, the unloaded latency, and what a bound is held against.
 use Prim.Native.Nat.{ℕ, _+_, _-_, _*_}
 use lib.Dec.{eqb}
 use lib.ListN.{length}
@@ -35,6 +35,6 @@ flitsSent p f = f .flits
 unfoldable pub latency : Platform → Flow → ℕ
 latency p f = p .link * (flitsSent p f + length (routeOf p f) - 1) + p .routing * (length (routeOf p f) - 1)
 
--- "not above the deadline": what a flow's bound is held against.
+-- "Wherever the verdicts, demands 2 and 3 and the round count say deadline, they now read deadline less the flow's own jitter": 0 where the jitter is above it.
 abbrev pub limit : Flow → ℕ
-limit f = f .deadline
+limit f = f .deadline - f .jitter
