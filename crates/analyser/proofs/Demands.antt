@@ -1,7 +1,8 @@
 -- The tender's three conditions of acceptance, of any bytes offered as a plan and any buffer lent for the reply.
 -- `analyse` promises to return `returned bytes (length held)` and to leave `left bytes held` in the buffer that held `held`.
 -- The words of these statements: `Laid`, `Legal` and `Listed` of plan's specs, `Right` of model's specs/Rules, and this crate's specs/Records.
--- By document 02 (L3) the deadline of demands 2 and 3 is the deadline less the flow's own jitter, `limit` of model's specs/Latency.
+-- By document 02 (L3) the deadline of demands 2 and 3 is the deadline less the flow's own jitter, `limit` of model's specs/Latency; without jitter it is
+-- the deadline (`no-jitter` of model's proofs/Ticks).
 use Prim.Native.Nat.{ℕ, _+_, _-_, _*_, _≤_, _<_}
 use mathlib.Core.Path.{_≡_, refl, sym, ap, _∙_}
 use mathlib.Core.Logic.{_↔_, _≢_, Iff·trans}
@@ -34,7 +35,7 @@ use Rattle.model.specs.Verdicts.{recurrenceOf, packetsIn, boundIn, roundsIn, ve
 use Rattle.model.specs.Rules.{Unbounded, AllBounded, IsWaiting, Right}
 use Rattle.model.proofs.Verdicts.{right, right-once}
 use Rattle.model.proofs.FlowLines.{answer-at, verdict-line, rounds-line}
-use Rattle.model.proofs.Ticks.{no-jitter, tick-line}
+use Rattle.model.proofs.Ticks as tick
 use Rattle.reply.specs.Reply.{replyBytes}
 use Rattle.analyser.specs.Analysed.{returned, left}
 use Rattle.analyser.specs.Records.{answerLines, idAt, verdictAt, namedAt, boundAt, roundsAt, Holds}
@@ -88,9 +89,9 @@ pub record Demand2 (p : Platform) (fs : List Flow) (answer : Flow → Verdict) (
 
 -- ==== demand 3: the rounds in record k, for flow i. "Rounds are stated over the recurrence of demand 2."
 pub record Demand3 (p : Platform) (fs : List Flow) (answer : Flow → Verdict) (i : Flow) (is : List ℕ) (k : ℕ) : Type 0 where
-  -- "the evaluations of its recurrence, starting at its unloaded latency, until a value repeats or passes the deadline" less the jitter; "
+  -- "the evaluations of its recurrence, starting at its unloaded latency, until a value repeats or passes the deadline" less the jitter;
   pub exactly : AllBounded p fs answer i → (n : ℕ) → (roundsAt is k ≡ n) ↔ Rounds (recurrenceOf p fs answer i) (latency p i) (limit i) n
-  -- zero for a flow that waits
+  -- "zero for a flow that waits
   pub waiting : verdictAt is k ≡ 2 → roundsAt is k ≡ 0
   -- or whose unloaded latency is above its deadline" less its jitter.
   pub too-long : limit i < latency p i → roundsAt is k ≡ 0
@@ -100,17 +101,6 @@ pub record Demand3 (p : Platform) (fs : List Flow) (answer : Flow → Verdict) (
   pub bounded : verdictAt is k ≡ 0 → roundsAt is k + packetsIn p fs answer i (latency p i) ≤ 2 + packetsIn p fs answer i (boundAt is k)
   -- for a late one whose unloaded latency is not above its deadline" less its jitter "at most one more than that growth up to the deadline" less the jitter.
   pub late : verdictAt is k ≡ 1 → latency p i ≤ limit i → roundsAt is k + packetsIn p fs answer i (latency p i) ≤ 1 + packetsIn p fs answer i (limit i)
-
--- ==== "Deadlines run from the tick" (document 02, L3): record k for flow i, with the jitter added and nothing taken away, so that none is hidden
-pub record FromTick (p : Platform) (fs : List Flow) (answer : Flow → Verdict) (i : Flow) (is : List ℕ) (k : ℕ) : Type 0 where
-  -- "up to the jitter is already gone when the packet is released": a bounded flow's jitter and bound together are at most its deadline.
-  pub met : verdictAt is k ≡ 0 → boundAt is k + i .jitter ≤ i .deadline
-  -- For a late one, whatever solves its recurrence is with the jitter above the deadline.
-  pub missed : verdictAt is k ≡ 1 → (x : ℕ) → recurrenceOf p fs answer i x ≡ x → i .deadline < x + i .jitter
-  -- "if C plus jitter is above the deadline, a flow that doesn't wait is late with zero rounds", and only then.
-  pub at-once : verdictAt is k ≢ 2 → ((verdictAt is k ≡ 1) × (roundsAt is k ≡ 0)) ↔ (i .deadline < latency p i + i .jitter)
-  -- Without jitter it is the deadline that demands 2 and 3 name.
-  pub no-jitter : i .jitter ≡ 0 → limit i ≡ i .deadline
 
 -- ==== the theorems, for every byte string and every buffer
 module _ (bytes held : List ℕ) where
@@ -186,21 +176,34 @@ module _ (bytes held : List ℕ) where
           late = λ e h. let (n, q) = tells-late v .0 (sym (t .verdict) ∙ e) in rw (t .rounds, ap roundsIn q) (d .late h n q);
         }
 
-    -- Document 02, L3. It excludes a deadline that is met from the release only.
-    pub from-tick : (k : ℕ) → k < length fs → FromTick p fs (verdict p fs) (flow fs k) (left bytes held) k
-    from-tick k l =
+    -- "Deadlines run from the tick" (document 02, L3), with the jitter added and nothing taken away, so that no jitter is hidden.
+    -- "up to the jitter is already gone when the packet is released": a bounded flow's bound plus its jitter is at most its deadline.
+    pub deadline-met : (k : ℕ) → k < length fs → verdictAt (left bytes held) k ≡ 0 → boundAt (left bytes held) k + flow fs k .jitter ≤ flow fs k .deadline
+    deadline-met k l e =
         let v = verdict p fs (flow fs k) in
         let a = answerTo p fs (flow fs k) in
         let t = read-back .each k l in
-        let d = rw (answer-at p fs a k l) at (tick-line bytes p fs is-plan a k l) in
-        record {
-          met = λ e. let (n, q) = tells-bounded v (boundIn v) .0 (sym (t .verdict) ∙ e, refl) in rw (t .bound) (d .met (boundIn v) n q);
-          missed = λ e. let (n, q) = tells-late v .0 (sym (t .verdict) ∙ e) in d .missed n q;
-          at-once = λ moves.
-              let free : AllBounded p fs (verdict p fs) (flow fs k) = λ m u. moves (demand-2 .each k l .waits .1 (m, u)) in
-              rw (t .verdict, t .rounds) (Iff·trans (tells-rounds v 0) (d .at-once free));
-          no-jitter = no-jitter (flow fs k);
-        }
+        let (n, q) = tells-bounded v (boundIn v) .0 (sym (t .verdict) ∙ e, refl) in
+        rw (t .bound) ((rw (answer-at p fs a k l) at (tick.deadline-met bytes p fs is-plan a k l)) (boundIn v) n q)
+
+    -- Whatever solves a late flow's recurrence is, plus its jitter, above its deadline.
+    pub deadline-missed :
+        (k : ℕ) → k < length fs → verdictAt (left bytes held) k ≡ 1 → (x : ℕ) → recurrenceOf p fs (verdict p fs) (flow fs k) x ≡ x →
+        flow fs k .deadline < x + flow fs k .jitter
+    deadline-missed k l e =
+        let a = answerTo p fs (flow fs k) in
+        let (n, q) = tells-late (verdict p fs (flow fs k)) .0 (sym (read-back .each k l .verdict) ∙ e) in
+        (rw (answer-at p fs a k l) at (tick.deadline-missed bytes p fs is-plan a k l)) n q
+
+    -- "if C plus jitter is above the deadline, a flow that doesn't wait is late with zero rounds", and only then.
+    pub late-at-once :
+        (k : ℕ) → k < length fs → verdictAt (left bytes held) k ≢ 2 →
+        ((verdictAt (left bytes held) k ≡ 1) × (roundsAt (left bytes held) k ≡ 0)) ↔ (flow fs k .deadline < latency p (flow fs k) + flow fs k .jitter)
+    late-at-once k l goes =
+        let a = answerTo p fs (flow fs k) in
+        let t = read-back .each k l in
+        let free : AllBounded p fs (verdict p fs) (flow fs k) = λ m u. goes (demand-2 .each k l .waits .1 (m, u)) in
+        rw (t .verdict, t .rounds) (Iff·trans (tells-rounds (verdict p fs (flow fs k)) 0) ((rw (answer-at p fs a k l) at (tick.late-at-once bytes p fs is-plan a k l)) free))
 
     -- The numbers decide the bytes: a buffer whose records tell right answers is the one that is left.
     pub told-once : Bytes held → {is : List ℕ} → Bytes is → (answer : Flow → Verdict) → Right p fs answer → Holds fs answer held is → is ≡ left bytes held

@@ -1,4 +1,5 @@
 -- Demands 2 and 3 of the tender, each as one theorem, for every flow of an accepted plan and its line in the answer.
+-- The deadline of their sentences is `limit`: by document 02 (L3) it is read as the deadline less the flow's own jitter.
 use Prim.Native.Nat.{ℕ, zero, suc, _+_, _-_, _^_, _≤_, _<_}
 use mathlib.Core.Path.{_≡_, refl, ap, subst, _∙_}
 use mathlib.Core.Bool.{true}

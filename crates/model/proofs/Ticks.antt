@@ -7,7 +7,7 @@ use native.Mathlib.Omega.{arith}
 use lib.ListN.{length, getD}
 use Rattle.plan.specs.declared.Platform.{Platform}
 use Rattle.plan.specs.declared.Flow.{Flow}
-use Rattle.plan.specs.Legal.{LegalPlatform, LegalFlow, flow}
+use Rattle.plan.specs.Legal.{flow}
 use Rattle.plan.specs.Reading.{accepted, readPlan}
 use Rattle.plan.proofs.Exact.{legal}
 use Rattle.recurrence.specs.Verdicts.{Rounds}
@@ -27,40 +27,37 @@ above-limit f x some = ((λ h. omega arith), λ h. omega arith)
 pub no-jitter : (f : Flow) → f .jitter ≡ 0 → limit f ≡ f .deadline
 no-jitter f e = omega arith
 
--- What line `a` of flow i says of its deadline, counted from the tick.
-pub record TickLine (p : Platform) (fs : List Flow) (i : Flow) (a : Answer) : Type 0 where
-  -- A bounded flow's bound plus its jitter is at most its deadline.
-  pub met : (r n : ℕ) → a .verdict ≡ Bounded r n → r + i .jitter ≤ i .deadline
-  -- A late flow's recurrence has no solution that is, plus the jitter, at most the deadline.
-  pub missed : (n : ℕ) → a .verdict ≡ Late n → (x : ℕ) → recurrenceOf p fs (verdict p fs) i x ≡ x → i .deadline < x + i .jitter
-  -- "if C plus jitter is above the deadline, a flow that doesn't wait is late with zero rounds", and only then.
-  pub at-once : AllBounded p fs (verdict p fs) i → (a .verdict ≡ Late 0) ↔ (i .deadline < latency p i + i .jitter)
+-- ---- for every flow of an accepted plan and its line in the answer
+module _ (s : List ℕ) (p : Platform) (fs : List Flow) (e : readPlan s ≡ accepted p fs) (blank : Answer) (k : ℕ) (l : k < length fs) where
+  line : VerdictLine p fs (flow fs k) (getD (answers p fs) k blank)
+  line = verdict-line s p fs e blank k l
 
-module _ {p : Platform} (fs : List Flow) {i : Flow} (lp : LegalPlatform p) (l : LegalFlow p i) where
+  some : 1 ≤ latency p (flow fs k)
+  some = latency-some (legal s p fs e .platform) (legal s p fs e .each k l)
+
   -- What solves the recurrence takes at least the unloaded latency.
-  takes-time : (x : ℕ) → recurrenceOf p fs (verdict p fs) i x ≡ x → (1 ≤ x) × (latency p i ≤ x)
-  takes-time x e = omega (arith, latency-some lp l)
+  takes-time : (x : ℕ) → recurrenceOf p fs (verdict p fs) (flow fs k) x ≡ x → (1 ≤ x) × (latency p (flow fs k) ≤ x)
+  takes-time x solves = omega (arith, some)
 
-  from-tick : {a : Answer} → VerdictLine p fs i a → TickLine p fs i a
+  -- "up to the jitter is already gone when the packet is released": a bounded flow's bound plus its jitter is at most its deadline.
+  pub deadline-met : (r n : ℕ) → getD (answers p fs) k blank .verdict ≡ Bounded r n → r + flow fs k .jitter ≤ flow fs k .deadline
+  deadline-met r n q =
+      let (free, b) = line .bounded r .0 (n, q) in
+      let low : flow fs k .deadline < r + flow fs k .jitter → ⊥ = λ high. omega (arith, above-limit (flow fs k) r (takes-time r (b .solves) .0) .1 high, b .within) in
+      omega arith
+
+  -- Whatever solves a late flow's recurrence is, plus its jitter, above its deadline.
+  pub deadline-missed : (n : ℕ) → getD (answers p fs) k blank .verdict ≡ Late n → (x : ℕ) → recurrenceOf p fs (verdict p fs) (flow fs k) x ≡ x → flow fs k .deadline < x + flow fs k .jitter
+  deadline-missed n q x solves =
+      let (free, none) = line .late .0 (n, q) in
+      let high : x ≤ limit (flow fs k) → ⊥ = λ low. none x low solves in
+      above-limit (flow fs k) x (takes-time x solves .0) .0 (omega arith)
+
+  -- "if C plus jitter is above the deadline, a flow that doesn't wait is late with zero rounds", and only then.
+  pub late-at-once : AllBounded p fs (verdict p fs) (flow fs k) → (getD (answers p fs) k blank .verdict ≡ Late 0) ↔ (flow fs k .deadline < latency p (flow fs k) + flow fs k .jitter)
   unfolding Rounds
-  from-tick line = record {
-    met = λ r n e.
-        let (free, b) = line .bounded r .0 (n, e) in
-        let low : i .deadline < r + i .jitter → ⊥ = λ high. omega (arith, above-limit i r (takes-time r (b .solves) .0) .1 high, b .within) in
-        omega arith;
-    missed = λ n e x solves.
-        let (free, none) = line .late .0 (n, e) in
-        let high : x ≤ limit i → ⊥ = λ low. none x low solves in
-        above-limit i x (takes-time x solves .0) .0 (omega arith);
-    at-once = λ free.
-        let above = above-limit i (latency p i) (latency-some lp l) in (
-          (λ e. above .0 (line .exactly (Late 0) .0 e .rounds)),
-          (λ h. line .exactly (Late 0) .1 (record { free = free; none = λ x low e. omega (arith, takes-time x e, above .1 h); rounds = above .1 h })),
-        );
-  }
-
--- For every flow of an accepted plan and its line in the answer.
-pub tick-line :
-    (s : List ℕ) (p : Platform) (fs : List Flow) (e : readPlan s ≡ accepted p fs) (blank : Answer) (k : ℕ) (l : k < length fs) →
-    TickLine p fs (flow fs k) (getD (answers p fs) k blank)
-tick-line s p fs e blank k l = from-tick fs (legal s p fs e .platform) (legal s p fs e .each k l) (verdict-line s p fs e blank k l)
+  late-at-once free =
+      let above = above-limit (flow fs k) (latency p (flow fs k)) some in (
+        (λ q. above .0 (line .exactly (Late 0) .0 q .rounds)),
+        (λ h. line .exactly (Late 0) .1 (record { free = free; none = λ x low solves. omega (arith, takes-time x solves, above .1 h); rounds = above .1 h })),
+      )

@@ -1,4 +1,5 @@
 -- Document 01, "Verdicts and rounds", and demands 2 and 3: what is allowed as the answers to a plan, without a way to find them.
+-- The deadline of these sentences is `limit`: by document 02 (L3) it is read as the deadline less the flow's own jitter.
 use Prim.Native.Nat.{ℕ, _≤_, _<_}
 use mathlib.Core.Path.{_≡_}
 use mathlib.Core.Bool.{true, false}
