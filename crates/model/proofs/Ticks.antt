@@ -1,5 +1,5 @@
 -- Document 02, "Deadlines run from the tick" (L3), without a difference: a jitter above the deadline is late, and nothing hides it.
-use Prim.Native.Nat.{ℕ, zero, suc, _+_, _-_, _≤_, _<_}
+use Prim.Native.Nat.{ℕ, _+_, _≤_, _<_}
 use mathlib.Core.Path.{_≡_}
 use mathlib.Core.Logic.{_↔_}
 use mathlib.Core.List.{List}
