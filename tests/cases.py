@@ -216,6 +216,11 @@ def changed(data, *changes):
     return bytes(data)
 
 
+def with_jitters(data, jitters):
+    """The plan with these jitters, in plan order."""
+    return changed(data, *((9 + 23 * place + 19, u(4, jitter)) for place, jitter in enumerate(jitters)))
+
+
 def framing_cases():
     yield P
     yield platform() + END_RECORD
@@ -337,7 +342,7 @@ def published_cases():
         assert answers_of(data)[ident] == expected, (changes, ident, answers_of(data)[ident])
         yield data
     for jitters, expected in tick_figures():
-        data = changed(P, *((start + 19, u(4, jitter)) for start, jitter in zip(P_STARTS[1:4], jitters)))
+        data = with_jitters(P, jitters)
         assert tuple(answers_of(data).values()) == expected, (jitters, answers_of(data), expected)
         yield data
     for data, bounds in paper_tables():
@@ -355,22 +360,23 @@ def busy_cases():
         for k in range(count):
             ends = chance.sample(range(columns * rows), 2)
             period = chance.randint(50, 3000)
-            flows.append(flow(k, priorities[k], ends[0], ends[1], chance.randint(1, 40), period, chance.randint(period // 2, period), chance.choice((0, chance.randint(0, period // 3), chance.randint(0, 2000)))))
+            flows.append(flow(k, priorities[k], ends[0], ends[1], chance.randint(1, 40), period, chance.randint(period // 2, period), chance.choice((0, 0, chance.randint(0, 2000)))))
         yield platform(columns, rows, chance.randint(1, 4), chance.randint(0, 3), chance.randint(1, 12), chance.randint(0, 3)) + b"".join(flows) + END_RECORD
 
 
 def tick_cases():
-    """Random plans in which one flow's jitter is about what its deadline leaves, by its bound or by its unloaded latency."""
+    """Random plans with jitters that leave room, and one flow's about what its deadline leaves, by its bound or its unloaded latency."""
     chance = random.Random(SEED + 2)
     for data in busy_cases():
-        platform_values, flows = read(data)
-        before = Analysis(platform_values, flows)
+        _, flows = read(data)
+        jitters = [chance.choice((0, chance.randint(0, f[5] // 3))) for f in flows]
+        before = Analysis(*read(with_jitters(data, jitters)))
         busiest = max(range(len(flows)), key=lambda k: before.answers[flows[k][0]][3])
         place = chance.choice((busiest, chance.randrange(len(flows))))
         ident, deadline = flows[place][0], flows[place][6]
         taken = chance.choice((before.answers[ident][2], before.latency(ident), 0))
-        jitter = max(deadline - taken + chance.randint(-1, 1), 0)
-        yield changed(data, (9 + 23 * place + 19, u(4, jitter)))
+        jitters[place] = max(deadline - taken + chance.randint(-1, 1), 0)
+        yield with_jitters(data, jitters)
 
 
 def random_cases():
@@ -382,8 +388,7 @@ def random_cases():
         for k in range(chance.randint(0, 9)):
             ends = chance.sample(range(nodes), 2)
             period = chance.randint(1, BILLION)
-            jitter = chance.choice((chance.randint(0, period // 3), chance.randint(0, BILLION)))
-            flows.append(flow(10 * k + chance.randint(0, 11), 5 * k + chance.randint(1, 6), ends[0], ends[1], chance.randint(1, 65535), period, chance.randint(1, period), jitter))
+            flows.append(flow(10 * k + chance.randint(0, 11), 5 * k + chance.randint(1, 6), ends[0], ends[1], chance.randint(1, 65535), period, chance.randint(1, period), chance.randint(0, BILLION)))
         data = platform(columns, rows, chance.randint(1, 16), chance.randint(0, 16), chance.randint(1, 64), chance.randint(0, 3)) + b"".join(flows) + END_RECORD
         for _ in range(chance.randint(0, 2)):
             data = changed(data, (chance.randrange(len(data)), bytes([chance.choice((0, 1, 2, 0x7F, 0xFF, chance.randrange(256)))])))
