@@ -6,9 +6,18 @@ use crate::model::{bytes_of, Flow, Number, Plan};
 use crate::reading::{read, Refusal};
 use crate::rules::{method_used, Analysis, Verdict};
 
+/// A flow with what was found of it.
+pub struct Judged {
+    pub flow: Flow,
+    pub latency: Number,
+    pub verdict: Verdict,
+    /// Of a late flow: the bound that it would have if its deadline ran from the release.
+    pub without_jitter: Option<Number>,
+}
+
 pub struct Accepted {
     pub plan: Plan,
-    pub verdicts: Vec<Verdict>,
+    pub judged: Vec<Judged>,
     pub reply: Vec<u8>,
     pub upstream: usize,
     pub downstream: usize,
@@ -19,7 +28,7 @@ pub struct Expected {
     pub text: String,
 }
 
-/// An error is a claim of document 01 that does not hold.
+/// An error is a claim of the documents that does not hold.
 pub fn expect(bytes: &[u8], law: Law) -> Result<Expected, String> {
     match read(bytes, law) {
         Ok(plan) => accepted(plan, law),
@@ -37,9 +46,19 @@ fn accepted(plan: Plan, law: Law) -> Result<Expected, String> {
     let (upstream, downstream) = pairs.fold((0, 0), |(up, down), (i, j)| {
         (up + analysis.upstream(i, j).len(), down + analysis.downstream(i, j).len())
     });
+    let judged = (0..plan.flows.len()).map(|i| judged(&analysis, i)).collect();
     let reply = reply(&plan, &verdicts, law);
     let text = text(&plan, &verdicts, law);
-    Ok(Expected { answer: Ok(Accepted { plan, verdicts, reply, upstream, downstream }), text })
+    Ok(Expected { answer: Ok(Accepted { plan, judged, reply, upstream, downstream }), text })
+}
+
+fn judged(analysis: &Analysis, i: usize) -> Judged {
+    let (flow, verdict) = (analysis.plan.flows[i].clone(), analysis.verdict(i));
+    let without_jitter = match verdict {
+        Verdict::Late { .. } => analysis.least_solution(i, &analysis.terms(i), flow.deadline),
+        _ => None,
+    };
+    Judged { latency: analysis.latency(i), flow, verdict, without_jitter }
 }
 
 fn in_order<'a>(plan: &'a Plan, verdicts: &'a [Verdict], law: Law) -> Vec<(&'a Flow, &'a Verdict)> {
@@ -57,14 +76,24 @@ fn reply(plan: &Plan, verdicts: &[Verdict], law: Law) -> Vec<u8> {
 
 fn record(flow: &Flow, verdict: &Verdict, law: Law) -> Vec<u8> {
     let none: Number = if law.breaks(Rule::NamedZero) { 0 } else { 0xFFFF };
-    let late_bound = if law.breaks(Rule::LateBound) { flow.deadline } else { 0 };
+    // Nothing below zero can be written.
+    let late_bound = if law.breaks(Rule::LateBound) { (flow.deadline - flow.jitter).max(0) } else { 0 };
     let (number, named, bound, rounds) = match *verdict {
-        Verdict::Bounded { bound, rounds } => (0, none, bound, rounds),
+        Verdict::Bounded { bound, rounds } => (0, none, printed(flow, bound, law), rounds),
         Verdict::Late { rounds } => (1, none, late_bound, rounds),
         Verdict::Waits { named } => (2, named, 0, 0),
     };
     let fields = [(0x81, 1), (13, 2), (flow.id, 2), (number, 1), (named, 2), (bound, 4), (rounds, 4)];
     fields.iter().flat_map(|(value, width)| bytes_of(*value, *width)).collect()
+}
+
+/// The bound starts at release.
+fn printed(flow: &Flow, bound: Number, law: Law) -> Number {
+    if law.breaks(Rule::JitterInBound) {
+        bound + flow.jitter
+    } else {
+        bound
+    }
 }
 
 fn text(plan: &Plan, verdicts: &[Verdict], law: Law) -> String {
@@ -81,7 +110,9 @@ fn mesh_line(plan: &Plan, law: Law) -> String {
 
 fn line(flow: &Flow, verdict: &Verdict, law: Law) -> String {
     match verdict {
-        Verdict::Bounded { bound, rounds } => format!("{} bounded {bound} rounds {rounds}", flow.id),
+        Verdict::Bounded { bound, rounds } => {
+            format!("{} bounded {} rounds {rounds}", flow.id, printed(flow, *bound, law))
+        }
         Verdict::Late { .. } if law.breaks(Rule::TextLateBare) => format!("{} late", flow.id),
         Verdict::Late { rounds } => format!("{} late rounds {rounds}", flow.id),
         Verdict::Waits { named } => format!("{} waits {named}", flow.id),

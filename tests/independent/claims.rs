@@ -1,6 +1,6 @@
-//! What document 01 says of its own rules, held against every accepted plan.
+//! What document 01 says of its own rules, with the deadlines of L3, held against every accepted plan.
 
-use crate::model::Number;
+use crate::model::{Flow, Number};
 use crate::rules::{Analysis, Term, Verdict};
 
 type Claim = Result<(), String>;
@@ -25,6 +25,7 @@ pub fn check(analysis: &Analysis) -> Claim {
             let terms = analysis.terms(i);
             small_terms(analysis, i, &terms)?;
             few_rounds(analysis, i, &terms)?;
+            in_time_from_the_tick(analysis, i)?;
         }
     }
     Ok(())
@@ -57,13 +58,30 @@ fn small_terms(analysis: &Analysis, i: usize, terms: &[Term]) -> Claim {
         let small = term.weight <= bound && term.allowance <= bound && bound <= term.period;
         claim(small, || format!("weight, allowance or bound of flow {j} is too large for flow {i}"))?;
     }
+    // No window is longer, whatever the jitter.
     let greatest = analysis.right_side(i, terms, analysis.plan.flows[i].deadline);
     claim(u64::try_from(greatest).is_ok(), || format!("the right side of flow {i} leaves 64 bits"))
 }
 
+/// A bounded flow's packet is there by its deadline, jitter and all; and C alone decides whether a late one has rounds.
+fn in_time_from_the_tick(analysis: &Analysis, i: usize) -> Claim {
+    let Flow { deadline, jitter, .. } = analysis.plan.flows[i];
+    let starts = analysis.latency(i) + jitter <= deadline;
+    match analysis.verdict(i) {
+        Verdict::Bounded { bound, .. } => {
+            claim(bound + jitter <= deadline, || format!("flow {i}: bound {bound} + jitter {jitter} > {deadline}"))
+        }
+        Verdict::Late { rounds } => {
+            claim((rounds > 0) == starts, || format!("flow {i} is late with {rounds} rounds, C + jitter: {starts}"))
+        }
+        Verdict::Waits { .. } => Ok(()),
+    }
+}
+
 /// The ceilings of the rounds.
 fn few_rounds(analysis: &Analysis, i: usize, terms: &[Term]) -> Claim {
-    let (first, deadline) = (analysis.latency(i), analysis.plan.flows[i].deadline);
+    let flow = &analysis.plan.flows[i];
+    let (first, deadline) = (analysis.latency(i), flow.deadline - flow.jitter);
     let packets = |x: Number| terms.iter().map(|term| analysis.packets(term, x)).sum::<Number>();
     let (rounds, ceiling) = match analysis.verdict(i) {
         Verdict::Bounded { bound, rounds } => (rounds, 2 + packets(bound) - packets(first)),

@@ -26,7 +26,7 @@ impl Trial<'_> {
     }
 
     pub fn expected(&self) -> Result<Expected, Disagreement> {
-        let broken = |words| differ(self.bytes, "a claim of document 01", "that it holds".to_string(), words);
+        let broken = |words| differ(self.bytes, "a claim of the documents", "that it holds".to_string(), words);
         expect(self.bytes, self.law).map_err(broken)
     }
 

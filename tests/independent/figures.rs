@@ -1,5 +1,5 @@
-//! The fixed list: plan P with its reply and text, every row of "Figures to meet", typed from document 01, and every
-//! refusal of a field, typed from L2 of document 02.
+//! The fixed list: plan P with its reply and text, every row of "Figures to meet", typed from document 01, every
+//! refusal of a field, typed from L2 of document 02, and the rows of L3.
 
 use crate::answer::Expected;
 use crate::compare::Trial;
@@ -12,6 +12,7 @@ use crate::random::Random;
 use crate::reading::plan_at;
 use crate::rules::Analysis;
 use crate::tally::Tally;
+use crate::ticks::{LARGE, TICK_ROWS};
 use crate::written::{self, give_back};
 
 const P: &str = "01 0006 06 01 01 00 0A 03
@@ -34,18 +35,19 @@ const P_TEXT: &str = "mesh 6x1 link 1 route 0 buffer 10 method 3
 /// Places in P: of its records, of the platform's fields, and of a flow's fields in its record.
 const PLATFORM: usize = 0;
 const BUFFER: usize = 7;
-const METHOD: usize = 8;
-const FLOW_2: usize = 9;
-const FLOW_3: usize = 32;
-const FLOW_5: usize = 55;
+pub const METHOD: usize = 8;
+pub const FLOW_2: usize = 9;
+pub const FLOW_3: usize = 32;
+pub const FLOW_5: usize = 55;
 const FLOWS: usize = 3;
 const END: usize = 78;
 const SOURCE: usize = 7;
-const PERIOD: usize = 11;
-const DEADLINE: usize = 15;
+pub const PERIOD: usize = 11;
+pub const DEADLINE: usize = 15;
+pub const JITTER: usize = 19;
 
 /// The bytes changed in P, and lines that the text must have.
-type Row = (&'static [(usize, &'static [u8])], &'static [&'static str]);
+pub type Row = (&'static [(usize, &'static [u8])], &'static [&'static str]);
 
 const ROWS: &[Row] = &[
     (&[], &["2 bounded 62 rounds 1", "3 bounded 328 rounds 2", "5 bounded 396 rounds 2"]),
@@ -197,15 +199,18 @@ impl Fixed<'_> {
         let busy = "01 0006 02 01 01 00 01 01
             02 0014 0001 0001 00 01 0001 00000003 00000003 00000000
             02 0014 0002 0002 00 01 0002 3B9ACA00 002DC6C0 00000000 7F 0000";
-        let text = self.agree(&typed(busy))?.text;
-        let line = |at: usize| text.lines().nth(at).unwrap_or("").to_string();
-        figure(&typed(busy), "x = 4 + 3 up(x / 3)", "2 late rounds 500000".to_string(), line(2))?;
+        self.last_line(busy, "2 late rounds 500000")?;
         let slow = "01 0006 02 01 01 00 01 01
             02 0014 0001 0001 00 01 7530 00007533 00007533 00000000
             02 0014 0002 0002 00 01 7530 3B9ACA00 3B9ACA00 00000000 7F 0000";
-        let text = self.agree(&typed(slow))?.text;
-        let line = |at: usize| text.lines().nth(at).unwrap_or("").to_string();
-        figure(&typed(slow), "30,002 of 30,003", "2 bounded 900150006 rounds 30003".to_string(), line(2))
+        self.last_line(slow, "2 bounded 900150006 rounds 30003")
+    }
+
+    fn last_line(&mut self, plan: &str, line: &str) -> Result<(), Disagreement> {
+        let bytes = typed(plan);
+        let text = self.agree(&bytes)?.text;
+        let last = text.lines().last().unwrap_or("").to_string();
+        figure(&bytes, "a plan of large numbers", line.to_string(), last)
     }
 }
 
@@ -250,11 +255,14 @@ pub fn check(program: &str, tally: &mut Tally) -> Result<usize, Disagreement> {
     let mut fixed = Fixed { program, tally, plans: 0 };
     wrong_turns()?;
     fixed.plan_p()?;
-    for row in ROWS {
+    for row in ROWS.iter().chain(TICK_ROWS) {
         fixed.row(row)?;
     }
     fixed.fields_outside()?;
     fixed.shorter_plans()?;
     fixed.many_rounds()?;
+    for (plan, line) in LARGE {
+        fixed.last_line(plan, line)?;
+    }
     Ok(fixed.plans)
 }

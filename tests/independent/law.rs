@@ -1,5 +1,5 @@
-//! The law is document 01 with the fields' refusals of L2 of document 02, and for writing L1; a planted fault breaks one
-//! rule of it on the expected side, so that a run must fail.
+//! The law is document 01 with the fields' refusals of L2 and the deadlines of L3 of document 02, and for writing L1; a
+//! planted fault breaks one rule of it on the expected side, so that a run must fail.
 
 use crate::model::{all_fields, field_refusals, High, Number, FLOW_FIELDS, PLATFORM_FIELDS};
 use crate::reading::{Check, CHECKS};
@@ -53,22 +53,22 @@ rules! {
     BNoFlits "b-no-flits" "B without the buffer flits";
     BNoShared "b-no-shared" "B without the number of shared links";
     BSharedWithK "b-shared-with-k" "B with the links shared by j and k";
-    DeadlineExclusive "deadline-exclusive" "a bound equal to the deadline is late";
-    DeadlineOneMore "deadline-one-more" "a bound one above the deadline is bounded";
+    DeadlineExclusive "deadline-exclusive" "a bound equal to the deadline less the jitter is late";
+    DeadlineOneMore "deadline-one-more" "a bound one above the deadline less the jitter is bounded";
     LatePastPeriod "late-past-period" "late when the first value passes the period of an interferer";
-    LateFirst "late-first" "late comes before waits when C is above the deadline";
+    LateFirst "late-first" "late comes before waits when C plus jitter is above the deadline";
     WaitsLowest "waits-lowest" "waits names the unbounded direct flow of lowest priority";
     WaitsPlanOrder "waits-plan-order" "waits names the first unbounded direct flow of the plan";
     WaitsRoot "waits-root" "waits names the flow that the named flow waits on";
     WaitingIgnored "waiting-ignored" "a waiting direct flow is no reason to wait";
     RoundsOneMore "rounds-one-more" "rounds one too many";
     RoundsNotLast "rounds-not-last" "the replacement that changes nothing is not counted";
-    RoundsNotLate "rounds-not-late" "the replacement that passes the deadline is not counted";
+    RoundsNotLate "rounds-not-late" "the replacement that passes the deadline less the jitter is not counted";
     RoundsFromZero "rounds-from-zero" "rounds start at x = 0";
-    RoundsLateOne "rounds-late-one" "a late flow with C above the deadline has one round";
+    RoundsLateOne "rounds-late-one" "a late flow with C plus jitter above the deadline has one round";
     ReplyByPriority "reply-by-priority" "the reply in the order of priority";
     NamedZero "named-zero" "the named flow is 0000 unless the verdict is 2";
-    LateBound "late-bound" "a late flow's bound is its deadline";
+    LateBound "late-bound" "a late flow's bound is its deadline less its jitter";
     ReplyOneMore "reply-one-more" "a reply of exactly the needed length is too short";
     ShortFirst "short-first" "refusal 11 comes before the plan's own faults";
     GuardBefore "guard-before" "the guard byte before the reply is written";
@@ -76,6 +76,24 @@ rules! {
     FurtherWritten "further-written" "the byte after the reply's own is written";
     RefusalWrites "refusal-writes" "a refusal writes the first byte of the reply buffer";
     PlanWritten "plan-written" "the plan's last byte is written";
+
+    [TICK]
+    DeadlineWhole "deadline-whole" "the deadline is not lessened by the jitter, as before L3";
+    JitterTwice "jitter-twice" "the deadline is lessened by the jitter twice";
+    JitterOneMore "jitter-one-more" "the deadline is lessened by one more than a jitter that is not 0";
+    JitterOneLess "jitter-one-less" "the deadline is lessened by one less than a jitter that is not 0";
+    JitterOfNext "jitter-of-next" "the deadline is lessened by the jitter of the plan's next flow";
+    JitterOfDirect "jitter-of-direct" "the deadline is lessened by the jitter of the direct flow of highest priority";
+    DeadlineLessC "deadline-less-c" "the deadline is lessened by C, not by the jitter";
+    JitterHidden "jitter-hidden" "a jitter above the deadline leaves the whole deadline";
+    JitterInBound "jitter-in-bound" "the bound in the reply starts at the tick";
+    JitterInR "jitter-in-r" "R_j starts at the tick of j";
+    JitterInWindow "jitter-in-window" "the window of a flow starts at its tick";
+    CWholeDeadline "c-whole-deadline" "C is held against the whole deadline, and only what follows it against less";
+    RoundsWholeDeadline "rounds-whole-deadline" "the rounds go on to the whole deadline, which the verdict does not";
+    RoundsZeroOnlyC "rounds-zero-only-c" "a late flow has no round only if C alone is above the deadline, and else one";
+    JitterLateFirst "jitter-late-first" "late comes before waits when the jitter is above the deadline";
+    JitterRefused "jitter-refused" "a jitter above the deadline is refused 37";
 
     [TEXT]
     TextMethodAsked "text-method-asked" "the method printed is the one asked for";
@@ -168,7 +186,7 @@ impl Plant {
     /// Whether a fault of analysing can be seen from written bytes too.
     fn shows_in_writing(&self) -> bool {
         match self {
-            Plant::Rule(Rule::FieldsBackwards | Rule::LastRecord | Rule::ReplyByPriority) => true,
+            Plant::Rule(Rule::FieldsBackwards | Rule::LastRecord | Rule::ReplyByPriority | Rule::JitterRefused) => true,
             Plant::Rule(rule) => is_in(NUMBERING, *rule),
             Plant::Order(first) => {
                 CHECKS[*first..first + 2].iter().all(|check| check.refusals().is_subset(&refusals_of_writing()))
@@ -206,6 +224,14 @@ impl Law {
 
     pub fn breaks(&self, rule: Rule) -> bool {
         self.planted == Some(Plant::Rule(rule))
+    }
+
+    /// The rule that it breaks, if that is one of the table's.
+    pub fn broken(&self) -> Option<Rule> {
+        match self.planted {
+            Some(Plant::Rule(rule)) => Some(rule),
+            _ => None,
+        }
     }
 
     pub fn never(&self, number: u8) -> bool {
@@ -306,7 +332,7 @@ fn rule_plants(rules: &'static [(Rule, &str, &str)]) -> impl Iterator<Item = Nam
 }
 
 fn analysing_plants() -> Vec<Named> {
-    let rules = rule_plants(ANALYSING).chain(rule_plants(TEXT)).chain(rule_plants(NUMBERING));
+    let rules = [ANALYSING, TICK, TEXT, NUMBERING].into_iter().flat_map(rule_plants);
     let orders = (0..CHECKS.len() - 1).map(order_plant).chain(field_order_plants());
     let places = refusals().into_iter().map(|number| {
         (Plant::Place(number), format!("place-{number}"), format!("refusal {number} stands one byte later"))

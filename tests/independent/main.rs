@@ -1,4 +1,5 @@
-//! An independent second witness: document 01 worked out by other means and compared with the product.
+//! An independent second witness: document 01 with the requests L1 to L3 of document 02, worked out by other means and
+//! compared with the product.
 
 mod answer;
 mod claims;
@@ -7,6 +8,7 @@ mod damage;
 mod disagreement;
 mod edits;
 mod figures;
+mod jitters;
 mod law;
 mod model;
 mod plans;
@@ -16,6 +18,7 @@ mod reading;
 mod routes;
 mod rules;
 mod tally;
+mod ticks;
 mod turns;
 mod writing;
 mod written;

@@ -83,6 +83,8 @@ pub const PRIORITY: usize = 5;
 pub const SOURCE: usize = 7;
 pub const DESTINATION: usize = 8;
 pub const PERIOD: usize = 11;
+pub const DEADLINE: usize = 15;
+pub const JITTER: usize = 19;
 
 pub const PLATFORM_FIELDS: [Field; 6] = [
     field(20, "columns", COLUMNS, 1, 1, High::Fixed(8)),
@@ -101,8 +103,8 @@ pub const FLOW_FIELDS: [Field; 8] = [
     field(34, "flits", 9, 2, 1, High::Fixed(65_535)),
     field(35, "period", PERIOD, 4, 1, High::Fixed(BILLION)),
     // Zero is an unfilled cell, above the period a planning error.
-    Field { above: 38, ..field(36, "deadline", 15, 4, 1, High::Period) },
-    field(37, "jitter", 19, 4, 0, High::Fixed(BILLION)),
+    Field { above: 38, ..field(36, "deadline", DEADLINE, 4, 1, High::Period) },
+    field(37, "jitter", JITTER, 4, 0, High::Fixed(BILLION)),
 ];
 
 pub fn all_fields() -> impl Iterator<Item = &'static Field> {

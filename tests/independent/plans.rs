@@ -117,6 +117,12 @@ fn plan_of(platform: Platform, count: usize, random: &mut Random) -> Plan {
     if random.chance(60) {
         exact_deadlines(&mut plan, random);
     }
+    if random.chance(25) {
+        exact_jitter(&mut plan, random);
+    }
+    if random.chance(35) {
+        late_jitters(&mut plan, random);
+    }
     plan
 }
 
@@ -142,9 +148,12 @@ fn popular_nodes(platform: &Platform, random: &mut Random) -> Vec<Number> {
     nodes
 }
 
+fn latency_alone(platform: &Platform, flow: &Flow) -> Number {
+    latency(platform, flow, route(platform, flow, Law::WHOLE).len(), Law::WHOLE)
+}
+
 fn set_times(platform: &Platform, flow: &mut Flow, mood: Mood, count: usize, random: &mut Random) {
-    let length = route(platform, flow, Law::WHOLE).len();
-    let alone = latency(platform, flow, length, Law::WHOLE);
+    let alone = latency_alone(platform, flow);
     let crowd = alone * count as Number;
     let period = match mood {
         Mood::Gentle => random.between(crowd * 2, crowd * 12),
@@ -158,7 +167,7 @@ fn set_times(platform: &Platform, flow: &mut Flow, mood: Mood, count: usize, ran
     flow.period = period.max(1).min(BILLION);
     // Enough for many rounds, and not so many that a run never ends.
     flow.deadline = deadline(flow.period, alone, mood, random).min(alone * MOST_LATENCIES);
-    flow.jitter = jitter(flow.period, mood, random);
+    flow.jitter = jitter(flow, alone, mood, random);
 }
 
 fn deadline(period: Number, alone: Number, mood: Mood, random: &mut Random) -> Number {
@@ -176,42 +185,67 @@ fn deadline(period: Number, alone: Number, mood: Mood, random: &mut Random) -> N
     chosen.max(1).min(period)
 }
 
-fn jitter(period: Number, mood: Mood, random: &mut Random) -> Number {
+/// Most leave room for C: a flow with another is late at once, and those that it delays wait.
+fn jitter(flow: &Flow, alone: Number, mood: Mood, random: &mut Random) -> Number {
+    let room = (flow.deadline - alone).max(0);
     let kinds = match mood {
         Mood::Gentle | Mood::Tight => 12,
-        Mood::Level => 17,
-        _ => 20,
+        Mood::Level => 16,
+        _ => 17,
     };
     let chosen = match random.below(kinds) {
-        0 | 1 => random.between(1, 5),
-        2 | 3 => random.between(0, period / 3),
-        4 => random.between(0, period),
-        12 | 13 => random.between(0, period),
-        14 => period,
-        15 => random.between(period, period * 4),
-        16 => random.between(0, period * 2),
-        17 | 18 => random.between(0, BILLION),
-        19 => BILLION,
+        0 | 1 => random.between(0, room.min(5)),
+        2 | 3 => random.between(0, room / 3),
+        4 => random.between(0, room),
+        12 | 13 => random.between(0, room / 2),
+        14 | 15 => random.between(0, room),
+        16 => random.between(0, flow.period * 2),
         _ => 0,
     };
     chosen.min(BILLION)
 }
 
-/// Some bounded flows get their bound for a deadline, and the last of them one less at times.
-fn exact_deadlines(plan: &mut Plan, random: &mut Random) {
-    let verdicts = Analysis::new(plan, Law::WHOLE).verdicts();
+fn bounds(plan: &Plan) -> Vec<(usize, Number)> {
     let bound_of = |verdict: &Verdict| match verdict {
         Verdict::Bounded { bound, .. } => Some(*bound),
         _ => None,
     };
-    let mut bounds: Vec<(usize, Number)> =
-        verdicts.iter().enumerate().filter_map(|(i, verdict)| Some((i, bound_of(verdict)?))).collect();
+    let verdicts = Analysis::new(plan, Law::WHOLE).verdicts();
+    verdicts.iter().enumerate().filter_map(|(i, verdict)| Some((i, bound_of(verdict)?))).collect()
+}
+
+/// Some bounded flows get the deadline that bound and jitter just meet, and the last of them one less at times.
+fn exact_deadlines(plan: &mut Plan, random: &mut Random) {
+    let mut bounds = bounds(plan);
     random.shuffle(&mut bounds);
     bounds.truncate(1 + random.below(3));
     for (i, bound) in &bounds {
-        plan.flows[*i].deadline = *bound;
+        plan.flows[*i].deadline = *bound + plan.flows[*i].jitter;
     }
-    if let (Some((i, bound)), true) = (bounds.last(), random.chance(40)) {
-        plan.flows[*i].deadline = (*bound - 1).max(1);
+    if let (Some((i, _)), true) = (bounds.last(), random.chance(40)) {
+        plan.flows[*i].deadline -= 1;
+    }
+}
+
+/// A bounded flow gets the jitter that its deadline just leaves, or one more. Its own bound stays what it is.
+fn exact_jitter(plan: &mut Plan, random: &mut Random) {
+    let bounds = bounds(plan);
+    if !bounds.is_empty() {
+        let (i, bound) = random.pick(&bounds);
+        plan.flows[i].jitter = plan.flows[i].deadline - bound + random.pick(&[0, 0, 1]);
+    }
+}
+
+/// One flow or two, of low priority rather than high, get a jitter that leaves just C, or less, or nothing.
+fn late_jitters(plan: &mut Plan, random: &mut Random) {
+    let Plan { platform, flows } = plan;
+    for _ in 0..random.below(3).min(flows.len()) {
+        let (one, other) = (random.below(flows.len()), random.below(flows.len()));
+        let lower = if flows[one].priority > flows[other].priority { one } else { other };
+        let flow = &mut flows[lower];
+        let (room, deadline) = (flow.deadline - latency_alone(platform, flow), flow.deadline);
+        let (above, any) = (random.between(deadline, flow.period * 4), random.between(0, BILLION));
+        let jitters = [room, room, room + 1, deadline - 1, deadline, deadline + 1, above, any, BILLION];
+        flow.jitter = random.pick(&jitters).max(0).min(BILLION);
     }
 }

@@ -107,8 +107,11 @@ impl<'a> Record<'a> {
         self.tag() == Some(Number::from(tag))
     }
 
-    fn high(&self, high: High) -> Option<Number> {
-        match high {
+    fn high(&self, field: &Field) -> Option<Number> {
+        match field.high {
+            High::Fixed(value) if field.offset == JITTER && self.law.breaks(Rule::JitterRefused) => {
+                Some(value.min(self.number(DEADLINE, 4)?))
+            }
             High::Fixed(value) => Some(value),
             High::LastNode => Some(number_at(self.bytes, COLUMNS, 1)? * number_at(self.bytes, ROWS, 1)? - 1),
             High::Period => self.number(PERIOD, 4),
@@ -117,7 +120,7 @@ impl<'a> Record<'a> {
 
     /// The refusal of a field outside its values.
     fn refusal_of(&self, field: &Field) -> Option<u8> {
-        let (value, high) = (self.number(field.offset, field.width)?, self.high(field.high)?);
+        let (value, high) = (self.number(field.offset, field.width)?, self.high(field)?);
         let (low, high) = self.law.edges(field.name, field.low, high);
         let number = match value {
             _ if value < low => Some(field.below),

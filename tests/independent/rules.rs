@@ -137,6 +137,7 @@ impl<'a> Analysis<'a> {
     /// Asked for flows that are known to be bounded; only a planted fault meets another.
     pub fn bound(&self, j: usize) -> Number {
         match self.verdict(j) {
+            Verdict::Bounded { bound, .. } if self.law.breaks(Rule::JitterInR) => bound + self.plan.flows[j].jitter,
             Verdict::Bounded { bound, .. } => bound,
             _ => self.latency(j),
         }
@@ -226,20 +227,42 @@ impl<'a> Analysis<'a> {
         self.up(x + term.jitter + term.allowance, term.period)
     }
 
+    /// The bound starts at release, so the flow's own jitter has no part in it.
     pub fn right_side(&self, i: usize, terms: &[Term], x: Number) -> Number {
-        let own = if self.law.breaks(Rule::OwnJitter) { self.plan.flows[i].jitter } else { 0 };
-        self.latency(i) + own + terms.iter().map(|term| self.packets(term, x) * term.weight).sum::<Number>()
+        let jitter = |rule: Rule| if self.law.breaks(rule) { self.plan.flows[i].jitter } else { 0 };
+        let window = x + jitter(Rule::JitterInWindow);
+        let delays = terms.iter().map(|term| self.packets(term, window) * term.weight).sum::<Number>();
+        self.latency(i) + jitter(Rule::OwnJitter) + delays
     }
 
-    /// The last value that a bound may have.
+    /// What is gone of the deadline when the packet is released: the flow's own jitter.
+    fn gone(&self, i: usize) -> Number {
+        let Flow { deadline, jitter, .. } = self.plan.flows[i];
+        let alone = self.latency(i);
+        match self.law.broken() {
+            Some(Rule::DeadlineWhole) => 0,
+            Some(Rule::JitterTwice) => 2 * jitter,
+            Some(Rule::JitterOneMore) if jitter > 0 => jitter + 1,
+            Some(Rule::JitterOneLess) if jitter > 0 => jitter - 1,
+            Some(Rule::JitterOfNext) => self.plan.flows[(i + 1) % self.plan.flows.len()].jitter,
+            Some(Rule::JitterOfDirect) => self.highest(self.direct(i)).map_or(jitter, |j| self.plan.flows[j].jitter),
+            Some(Rule::DeadlineLessC) => alone,
+            Some(Rule::JitterHidden) if jitter > deadline => 0,
+            Some(Rule::CWholeDeadline) if alone <= deadline => jitter.min(deadline - alone),
+            _ => jitter,
+        }
+    }
+
+    /// The last value that a bound may have: below zero if the jitter is above the deadline.
     fn last_allowed(&self, i: usize) -> Number {
         let later = Number::from(self.law.breaks(Rule::DeadlineOneMore));
-        self.plan.flows[i].deadline + later - Number::from(self.law.breaks(Rule::DeadlineExclusive))
+        let earlier = Number::from(self.law.breaks(Rule::DeadlineExclusive));
+        self.plan.flows[i].deadline - self.gone(i) + later - earlier
     }
 
-    /// The least solution not above the deadline: tried value by value where the window is small.
-    fn least_solution(&self, i: usize, terms: &[Term]) -> Option<Number> {
-        let (first, last) = (self.latency(i), self.last_allowed(i));
+    /// The least solution not above the last value: tried value by value where the window is small.
+    pub fn least_solution(&self, i: usize, terms: &[Term], last: Number) -> Option<Number> {
+        let first = self.latency(i);
         if last - first <= TRIES {
             return (first..=last).find(|x| self.right_side(i, terms, *x) == *x);
         }
@@ -256,9 +279,11 @@ impl<'a> Analysis<'a> {
 
     /// Counted as the paper words it, apart from the bound.
     fn rounds(&self, i: usize, terms: &[Term]) -> Number {
-        let (start, deadline) = (self.latency(i), self.last_allowed(i));
-        if start > deadline {
-            return Number::from(self.law.breaks(Rule::RoundsLateOne));
+        let (start, deadline) = (self.latency(i), self.plan.flows[i].deadline);
+        let last = if self.law.breaks(Rule::RoundsWholeDeadline) { deadline } else { self.last_allowed(i) };
+        if start > last {
+            let one = self.law.breaks(Rule::RoundsZeroOnlyC) && start <= deadline;
+            return Number::from(one || self.law.breaks(Rule::RoundsLateOne));
         }
         let mut x = if self.law.breaks(Rule::RoundsFromZero) { 0 } else { start };
         let mut rounds = Number::from(self.law.breaks(Rule::RoundsOneMore));
@@ -267,7 +292,7 @@ impl<'a> Analysis<'a> {
             if new == x {
                 return rounds + Number::from(!self.law.breaks(Rule::RoundsNotLast));
             }
-            if new > deadline {
+            if new > last {
                 return rounds + Number::from(!self.law.breaks(Rule::RoundsNotLate));
             }
             rounds += 1;
@@ -286,14 +311,18 @@ impl<'a> Analysis<'a> {
     /// The unbounded direct flow of highest priority, if there is one.
     fn waited_for(&self, i: usize) -> Option<usize> {
         let unbounded: Vec<usize> = self.direct(i).into_iter().filter(|j| self.is_reason_to_wait(*j)).collect();
-        let priority = |j: &usize| self.plan.flows[*j].priority;
         if self.law.breaks(Rule::WaitsPlanOrder) {
             return unbounded.first().copied();
         }
         if self.law.breaks(Rule::WaitsLowest) {
-            return unbounded.into_iter().max_by_key(priority);
+            return unbounded.into_iter().max_by_key(|j| self.plan.flows[*j].priority);
         }
-        unbounded.into_iter().min_by_key(priority)
+        self.highest(unbounded)
+    }
+
+    /// The one of highest priority.
+    fn highest(&self, flows: Vec<usize>) -> Option<usize> {
+        flows.into_iter().min_by_key(|j| self.plan.flows[*j].priority)
     }
 
     fn named(&self, j: usize) -> Number {
@@ -304,9 +333,11 @@ impl<'a> Analysis<'a> {
     }
 
     fn is_late_early(&self, i: usize) -> bool {
+        let Flow { deadline, jitter, .. } = self.plan.flows[i];
         let first = self.latency(i);
         let passes = |j: usize| first > self.plan.flows[j].period;
-        (self.law.breaks(Rule::LateFirst) && first > self.plan.flows[i].deadline)
+        (self.law.breaks(Rule::LateFirst) && first + jitter > deadline)
+            || (self.law.breaks(Rule::JitterLateFirst) && jitter > deadline)
             || (self.law.breaks(Rule::LatePastPeriod) && self.direct(i).into_iter().any(passes))
     }
 
@@ -319,7 +350,7 @@ impl<'a> Analysis<'a> {
         }
         let terms = self.terms(i);
         let rounds = self.rounds(i, &terms);
-        match self.least_solution(i, &terms) {
+        match self.least_solution(i, &terms, self.last_allowed(i)) {
             Some(bound) => Verdict::Bounded { bound, rounds },
             None => Verdict::Late { rounds },
         }

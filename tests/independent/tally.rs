@@ -1,6 +1,7 @@
 //! What a run has seen. A test that cannot see a case is no test, so a run of the tests' size demands all of them.
 
-use crate::answer::{Accepted, Expected};
+use crate::answer::{Accepted, Expected, Judged};
+use crate::jitters::Jitters;
 use crate::law::{refusals, refusals_of_writing};
 use crate::model::{is_of_flow, Number};
 use crate::product::Returned;
@@ -56,6 +57,7 @@ pub struct Tally {
     waiting: usize,
     at_deadline: usize,
     late_by_rounds: usize,
+    jitters: Jitters,
     upstream: usize,
     downstream: usize,
     most_rounds: Number,
@@ -104,16 +106,17 @@ impl Tally {
         self.meshes.insert((platform.columns, platform.rows));
         self.methods.insert(platform.method);
         self.flow_counts.insert(accepted.plan.flows.len());
-        for (flow, verdict) in accepted.plan.flows.iter().zip(&accepted.verdicts) {
-            self.count_verdict(flow.deadline, verdict);
+        for judged in &accepted.judged {
+            self.count_verdict(judged);
+            self.jitters.count(judged);
         }
     }
 
-    fn count_verdict(&mut self, deadline: Number, verdict: &Verdict) {
+    fn count_verdict(&mut self, Judged { flow, verdict, .. }: &Judged) {
         match *verdict {
             Verdict::Bounded { bound, rounds } => {
                 self.bounded += 1;
-                self.at_deadline += usize::from(bound == deadline);
+                self.at_deadline += usize::from(bound + flow.jitter == flow.deadline);
                 self.most_rounds = self.most_rounds.max(rounds);
                 self.most_rounds_bounded = self.most_rounds_bounded.max(rounds);
             }
@@ -137,6 +140,7 @@ impl Tally {
         let (at_once, late) = (self.late_at_once, self.late_by_rounds);
         println!("flows late: {}, of them with no round: {at_once}, with more than one: {late}", self.late);
         println!("flows waiting: {}", self.waiting);
+        self.jitters.print();
         println!("upstream k: {}, downstream k: {}", self.upstream, self.downstream);
         println!("most rounds: {}, of a bounded flow: {}", self.most_rounds, self.most_rounds_bounded);
         println!("mesh sizes: {}, flow counts: {}", self.meshes.len(), self.flow_counts.len());
@@ -172,7 +176,7 @@ impl Tally {
             ("a plan given back by writing what was read", self.given_back > 0),
         ];
         let others = others.iter().map(|(name, seen)| (name.to_string(), *seen));
-        let all = of_plans.into_iter().chain(of_writings).chain(others);
+        let all = of_plans.into_iter().chain(of_writings).chain(others).chain(self.jitters.cases());
         all.filter(|(_, seen)| !seen).map(|(name, _)| name).collect()
     }
 }
