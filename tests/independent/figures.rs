@@ -12,7 +12,7 @@ use crate::random::Random;
 use crate::reading::plan_at;
 use crate::rules::Analysis;
 use crate::tally::Tally;
-use crate::ticks::{LARGE, TICK_ROWS};
+use crate::ticks::{Large, LARGE, TICK_ROWS};
 use crate::written::{self, give_back};
 
 const P: &str = "01 0006 06 01 01 00 0A 03
@@ -120,6 +120,11 @@ fn p_with(changes: &[(usize, &[u8])]) -> Vec<u8> {
     bytes
 }
 
+/// A plan typed up to its last flow's jitter, with this jitter and the end record.
+fn completed(start: &str, jitter: u32) -> Vec<u8> {
+    typed(&format!("{start} {jitter:08X} 7F 0000"))
+}
+
 /// What the document says against what this program expects; the product is held to the latter.
 fn figure(bytes: &[u8], about: &str, expected: String, came: String) -> Result<(), Disagreement> {
     let about = format!("figures to meet: {about}");
@@ -193,24 +198,14 @@ impl Fixed<'_> {
         figure(&flowless, "no flows", "7F0000".to_string(), hex(&reply))
     }
 
-    /// A late and a bounded flow with very many rounds. By hand: the late one's x is 4 + 6k after k rounds; the
-    /// bounded one's is 30,002 (k + 1), until k = 30,002, and one round more changes nothing.
-    fn many_rounds(&mut self) -> Result<(), Disagreement> {
-        let busy = "01 0006 02 01 01 00 01 01
-            02 0014 0001 0001 00 01 0001 00000003 00000003 00000000
-            02 0014 0002 0002 00 01 0002 3B9ACA00 002DC6C0 00000000 7F 0000";
-        self.last_line(busy, "2 late rounds 500000")?;
-        let slow = "01 0006 02 01 01 00 01 01
-            02 0014 0001 0001 00 01 7530 00007533 00007533 00000000
-            02 0014 0002 0002 00 01 7530 3B9ACA00 3B9ACA00 00000000 7F 0000";
-        self.last_line(slow, "2 bounded 900150006 rounds 30003")
-    }
-
-    fn last_line(&mut self, plan: &str, line: &str) -> Result<(), Disagreement> {
-        let bytes = typed(plan);
-        let text = self.agree(&bytes)?.text;
-        let last = text.lines().last().unwrap_or("").to_string();
-        figure(&bytes, "a plan of large numbers", line.to_string(), last)
+    fn large(&mut self, (start, ends): &Large) -> Result<(), Disagreement> {
+        for (jitter, line) in *ends {
+            let bytes = completed(start, *jitter);
+            let text = self.agree(&bytes)?.text;
+            let last = text.lines().last().unwrap_or("").to_string();
+            figure(&bytes, "a plan of large numbers", line.to_string(), last)?;
+        }
+        Ok(())
     }
 }
 
@@ -260,9 +255,8 @@ pub fn check(program: &str, tally: &mut Tally) -> Result<usize, Disagreement> {
     }
     fixed.fields_outside()?;
     fixed.shorter_plans()?;
-    fixed.many_rounds()?;
-    for (plan, line) in LARGE {
-        fixed.last_line(plan, line)?;
+    for plan in LARGE {
+        fixed.large(plan)?;
     }
     Ok(fixed.plans)
 }

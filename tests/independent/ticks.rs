@@ -95,58 +95,46 @@ pub const TICK_ROWS: &[Row] = &[
     ),
 ];
 
-/// Plans of large numbers, and the last flow's line.
-pub const LARGE: &[(&str, &str)] = &[
-    // x is 4 + 6k after k rounds. With a jitter of 1,000,000 it may not pass 2,000,000; with 2,999,996 not 4, which is
-    // C; with one more there is no round.
+/// A plan up to its last flow's jitter, and jitters that complete it, each with the last flow's line.
+pub type Large = (&'static str, &'static [(u32, &'static str)]);
+
+/// Plans of large numbers, each typed once: its cases differ in the last flow's jitter alone.
+pub const LARGE: &[Large] = &[
+    // Late after very many rounds: x is 4 + 6k after k rounds. With a jitter of 1,000,000 it may not pass 2,000,000;
+    // with 2,999,996 not 4, which is C; with one more there is no round.
     (
         "01 0006 02 01 01 00 01 01
         02 0014 0001 0001 00 01 0001 00000003 00000003 00000000
-        02 0014 0002 0002 00 01 0002 3B9ACA00 002DC6C0 000F4240 7F 0000",
-        "2 late rounds 333333",
+        02 0014 0002 0002 00 01 0002 3B9ACA00 002DC6C0",
+        &[
+            (0, "2 late rounds 500000"),
+            (1_000_000, "2 late rounds 333333"),
+            (2_999_996, "2 late rounds 1"),
+            (2_999_997, "2 late rounds 0"),
+        ],
     ),
-    (
-        "01 0006 02 01 01 00 01 01
-        02 0014 0001 0001 00 01 0001 00000003 00000003 00000000
-        02 0014 0002 0002 00 01 0002 3B9ACA00 002DC6C0 002DC6BC 7F 0000",
-        "2 late rounds 1",
-    ),
-    (
-        "01 0006 02 01 01 00 01 01
-        02 0014 0001 0001 00 01 0001 00000003 00000003 00000000
-        02 0014 0002 0002 00 01 0002 3B9ACA00 002DC6C0 002DC6BD 7F 0000",
-        "2 late rounds 0",
-    ),
-    // x is 30,002 (k + 1). The bound is just met with 99,849,994; with one more the round that reaches it is the last.
+    // Bounded after very many rounds: x is 30,002 (k + 1), until k = 30,002, and one round more changes nothing. The
+    // bound is just met with 99,849,994; with one more the round that reaches it is the last.
     (
         "01 0006 02 01 01 00 01 01
         02 0014 0001 0001 00 01 7530 00007533 00007533 00000000
-        02 0014 0002 0002 00 01 7530 3B9ACA00 3B9ACA00 05F3970A 7F 0000",
-        "2 bounded 900150006 rounds 30003",
-    ),
-    (
-        "01 0006 02 01 01 00 01 01
-        02 0014 0001 0001 00 01 7530 00007533 00007533 00000000
-        02 0014 0002 0002 00 01 7530 3B9ACA00 3B9ACA00 05F3970B 7F 0000",
-        "2 late rounds 30002",
+        02 0014 0002 0002 00 01 7530 3B9ACA00 3B9ACA00",
+        &[
+            (0, "2 bounded 900150006 rounds 30003"),
+            (99_849_994, "2 bounded 900150006 rounds 30003"),
+            (99_849_995, "2 late rounds 30002"),
+        ],
     ),
     // C is 3 and the deadline 1,000,000,000: just met with 999,999,997.
     (
-        "01 0006 02 01 01 00 01 01 02 0014 0001 0001 00 01 0001 3B9ACA00 3B9ACA00 3B9AC9FD 7F 0000",
-        "1 bounded 3 rounds 1",
+        "01 0006 02 01 01 00 01 01 02 0014 0001 0001 00 01 0001 3B9ACA00 3B9ACA00",
+        &[(999_999_997, "1 bounded 3 rounds 1"), (999_999_998, "1 late rounds 0")],
     ),
-    ("01 0006 02 01 01 00 01 01 02 0014 0001 0001 00 01 0001 3B9ACA00 3B9ACA00 3B9AC9FE 7F 0000", "1 late rounds 0"),
     // Behind that flow, x is 4 and then 10, by two packets in x + 999,999,997: just met with 999,999,990.
     (
         "01 0006 02 01 01 00 01 01
         02 0014 0001 0001 00 01 0001 3B9ACA00 3B9ACA00 3B9AC9FD
-        02 0014 0002 0002 00 01 0002 3B9ACA00 3B9ACA00 3B9AC9F6 7F 0000",
-        "2 bounded 10 rounds 2",
-    ),
-    (
-        "01 0006 02 01 01 00 01 01
-        02 0014 0001 0001 00 01 0001 3B9ACA00 3B9ACA00 3B9AC9FD
-        02 0014 0002 0002 00 01 0002 3B9ACA00 3B9ACA00 3B9AC9F7 7F 0000",
-        "2 late rounds 1",
+        02 0014 0002 0002 00 01 0002 3B9ACA00 3B9ACA00",
+        &[(999_999_990, "2 bounded 10 rounds 2"), (999_999_991, "2 late rounds 1")],
     ),
 ];
