@@ -35,6 +35,6 @@ flitsSent p f = f .flits
 unfoldable pub latency : Platform → Flow → ℕ
 latency p f = p .link * (flitsSent p f + length (routeOf p f) - 1) + p .routing * (length (routeOf p f) - 1)
 
--- "Wherever the verdicts, demands 2 and 3 and the round count say deadline, they now read deadline less the flow's own jitter": 0 where the jitter is above it.
+-- "Wherever the verdicts, demands 2 and 3 and the round count say deadline, they now read deadline less the flow's own jitter": 0 where the jitter is not below it.
 abbrev pub limit : Flow → ℕ
 limit f = f .deadline - f .jitter
