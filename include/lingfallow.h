@@ -99,7 +99,7 @@ struct lingfallow_returned {
  * (crates/analyser/specs/Analysed.antt). Seen in the archive and tested, not proved (tests/examples.sh): null pointers
  * do as said; it has no data that changes and takes nothing from a heap, so that calls with buffers of their own may
  * run side by side; it calls memcpy and memset, which the program must have, and no other function; a call takes under
- * 64 KiB of stack.
+ * 48 KiB of stack.
  */
 struct lingfallow_returned lingfallow_analyse(const uint8_t *plan, size_t plan_length, uint8_t *reply,
                                               size_t reply_length);

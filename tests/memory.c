@@ -13,7 +13,7 @@
 #include "lingfallow.h"
 
 enum { P_LENGTH = 81, P_REPLY = 51, ROOM = 64, HELD = 0xA5, STACK_LENT = 256 * 1024 };
-enum { ANALYSE_STACK = 64 * 1024, WRITE_STACK = 16 * 1024, WRITE_ROOM = P_LENGTH + 9 };
+enum { ANALYSE_STACK = 48 * 1024, WRITE_STACK = 16 * 1024, WRITE_ROOM = P_LENGTH + 9 };
 
 static const uint8_t p_reply[P_REPLY] = {
     0x81, 0, 13, 0, 2, 0, 0xFF, 0xFF, 0, 0, 0x00, 0x3E, 0, 0, 0, 1, /* 2 bounded 62 rounds 1 */
@@ -116,7 +116,7 @@ int main(void) {
     numbers.count = 3;
     expect(null_written(), "a null pointer of length 0 is a buffer that is too short for a plan");
     size_t analysing = stack_used(analyse_p), writing = stack_used(write_p);
-    expect(analysing < ANALYSE_STACK, "an analysis takes under 64 KiB of stack");
+    expect(analysing < ANALYSE_STACK, "an analysis takes under 48 KiB of stack");
     expect(writing < WRITE_STACK, "a writing takes under 16 KiB of stack");
     printf("memory: every byte as promised, %zu bytes of stack to analyse and %zu to write\n", analysing, writing);
     return 0;

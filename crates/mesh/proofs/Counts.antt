@@ -88,7 +88,7 @@ module _ {a b : List ℕ} {x : Span} (run : Run a b x) where
         rw (← i) (rw (e .2) (at-on b (x .first′ + (p - x .first)) (e .1))),
   )
 
-  run-inside : 0 < x .count → x .first + x .count ≤ length a
+  pub run-inside : 0 < x .count → x .first + x .count ≤ length a
   run-inside h = omega (arith, run .each (x .count - 1) (omega arith))
 
   pub run-counted : Counted 0 a b (x .first) (x .count)

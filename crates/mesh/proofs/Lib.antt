@@ -5,6 +5,7 @@ pub mod Runs
 pub mod Walks
 pub mod Counts
 pub mod Sides
-pub mod Listing
-pub mod Scan
+pub mod Keeping
+pub mod Hopping
+pub mod Entering
 pub mod Theorems

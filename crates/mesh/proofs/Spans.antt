@@ -3,6 +3,8 @@ use Prim.Native.Nat.{ℕ, zero, suc, _+_, _-_, _*_, _≤_, _<_, min, max}
 use mathlib.Core.Path.{_≡_}
 use mathlib.Core.List.{List}
 use lib.ListN.{length, getD}
+use Rattle.mesh.specs.declared.spots.Spot.{Spot}
+use Rattle.mesh.specs.declared.spots.Spots.{Spots}
 use Rattle.mesh.specs.Mesh.{distance}
 
 -- How many links, and the place of the first on each of the two routes.
@@ -46,21 +48,36 @@ fall g u v g′ u′ v′ = line-span (u - v) (8 * g′ + u′) (u′ - v′) (8
 abbrev pub walk-span : ℕ → ℕ → ℕ → ℕ → ℕ → ℕ → Span
 walk-span g u v g′ u′ v′ = join-span (v - u) (v′ - u′) (rise g u v g′ u′ v′) (fall g u v g′ u′ v′)
 
--- The first route goes from (r₁, c₁) to (r₂, c₂), the second from (r₃, c₃) to (r₄, c₄): what they share at the entry, up to the turn, up to the exit and in all.
-module _ (r₁ c₁ r₂ c₂ r₃ c₃ r₄ c₄ : ℕ) where
-  abbrev pub entry-span : Span
-  entry-span = line-span 1 (8 * r₁ + c₁) 1 (8 * r₃ + c₃)
+-- What two links share, each into or out of the mesh at a spot.
+abbrev pub spot-number : Spot → ℕ
+spot-number s = 8 * s .row + s .column
 
-  abbrev pub turn-span : Span
-  turn-span = join-span 1 1 entry-span (walk-span r₁ c₁ c₂ r₃ c₃ c₄)
+abbrev pub link-span : Spot → Spot → Span
+link-span s t = line-span 1 (spot-number s) 1 (spot-number t)
 
-  abbrev pub exit-span : Span
-  exit-span = join-span (1 + distance c₁ c₂) (1 + distance c₃ c₄) turn-span (walk-span c₂ r₁ r₂ c₄ r₃ r₄)
+-- What two routes share up to the turn, from there on and in all.
+module _ (a b : Spots) where
+  abbrev pub row-span : Span
+  row-span = walk-span (a .source .row) (a .source .column) (a .destination .column) (b .source .row) (b .source .column) (b .destination .column)
+
+  abbrev pub column-span : Span
+  column-span = walk-span (a .destination .column) (a .source .row) (a .destination .row) (b .destination .column) (b .source .row) (b .destination .row)
+
+  abbrev pub to-span : Span
+  to-span = join-span 1 1 (link-span (a .source) (b .source)) row-span
+
+  abbrev pub from-span : Span
+  from-span =
+      join-span
+      (distance (a .source .row) (a .destination .row))
+      (distance (b .source .row) (b .destination .row))
+      column-span
+      (link-span (a .destination) (b .destination))
 
   abbrev pub route-span : Span
   route-span =
       join-span
-      (1 + distance c₁ c₂ + distance r₁ r₂)
-      (1 + distance c₃ c₄ + distance r₃ r₄)
-      exit-span
-      (line-span 1 (8 * r₂ + c₂) 1 (8 * r₄ + c₄))
+      (1 + distance (a .source .column) (a .destination .column))
+      (1 + distance (b .source .column) (b .destination .column))
+      to-span
+      from-span

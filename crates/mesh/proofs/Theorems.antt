@@ -1,22 +1,22 @@
 -- What document 01 says of nodes, links, routes and shared links, for every mesh of 1 to 8 columns and 1 to 8 rows.
-use Prim.Native.Nat.{ℕ, _+_, _-_, _/_, _%_, _≤_, _<_}
+use Prim.Native.Nat.{ℕ, _+_, _*_, _/_, _%_, _≤_, _<_}
 use mathlib.Core.Path.{_≡_, refl, sym, ap, ap₂, _∙_}
 use mathlib.Core.Bool.{Bool, true, false, cond, _&&_, _||_, and-false}
-use mathlib.Core.List.{List, [], _∷_, _++_}
-use native.Mathlib.Nat.{add-zero, div-add-mod', div-eq-of-lt, mod-eq-of-lt, mul-add-div-right, mul-add-mod-self-right}
+use mathlib.Core.List.{List, [], _∷_}
+use native.Mathlib.Nat.{add-zero, lt-of-lt-of-le, mul-le-mul-left, mod-lt, div-lt-iff-lt-mul, div-add-mod', div-eq-of-lt, mod-eq-of-lt, mul-add-div-right, mul-add-mod-self-right}
 use native.Mathlib.Omega.{arith}
 use native.Mathlib.Decide.{decLt}
 use borrow.Author.Tests.{eqb-true}
 use lib.Dec.{eqb}
-use lib.ListN.{length, getD, take, replicate}
-use Rattle.mesh.specs.Mesh.{node, Ends, link, east, west, south, north, distance, route, no-link, Listed}
+use lib.ListN.{length, getD}
+use Rattle.mesh.specs.Mesh.{node, Node, Ends, link, east, west, south, north, distance, route}
 use Rattle.mesh.specs.Shared.{on, domain, OneRun, shared-count, first-shared, Shares, Sides}
-use Rattle.mesh.proofs.Places.{at-node, length-xy}
+use Rattle.mesh.specs.Halves.{spotsOf, OnMesh}
+use Rattle.mesh.proofs.Places.{length-xy}
 use Rattle.mesh.proofs.Spans.{Span, Run}
 use Rattle.mesh.proofs.Walks.{routes-run, routes-below}
 use Rattle.mesh.proofs.Counts.{run-once, run-first, run-one, run-count, run-counted}
 use Rattle.mesh.proofs.Sides.{run-sides}
-use Rattle.mesh.proofs.Listing.{listed-shared}
 
 -- "Node number = row x columns + column": each number has one row and one column, and they give it again.
 pub node-number : (columns n : ℕ) → node columns (n / columns) (n % columns) ≡ n
@@ -35,6 +35,18 @@ nodes-differ columns row column row′ column′ h h′ e = (
   sym (node-column columns row column h) ∙ ap (λ (n : ℕ). n % columns) e ∙ node-column columns row′ column′ h′,
 )
 
+-- "columns (1): 1..8; rows (1): 1..8": the row and the column of a node are below 8.
+node-small : {columns n : ℕ} → Node columns n → (n / columns < 8) × (n % columns < 8)
+node-small {columns} {n} h =
+    let below : n < columns * 8 = lt-of-lt-of-le (h .inside) (mul-le-mul-left columns (h .high)) in
+    (div-lt-iff-lt-mul (h .wide .0) .1 (omega arith), omega (arith, h .wide, mod-lt n (h .wide .0)))
+
+pub ends-on-mesh : {columns s d : ℕ} → Ends columns s d → OnMesh (spotsOf columns s d)
+ends-on-mesh e =
+    let a = node-small (e .from) in
+    let b = node-small (e .to) in
+    record { rows = (a .0, b .0); columns = (a .1, b .1) }
+
 -- Links are numbered one to one: equal numbers are of one kind, one line and one place.
 pub links-differ : (kind line place kind′ line′ place′ : ℕ) → (line < 8) × (place < 8) × (line′ < 8) × (place′ < 8)
     → link kind line place ≡ link kind′ line′ place′ → (kind ≡ kind′) × (line ≡ line′) × (place ≡ place′)
@@ -45,16 +57,12 @@ pub two-directions : (row column : ℕ)
     → (east row column ≡ west row (column + 1) → ⊥) × (south row column ≡ north (row + 1) column → ⊥)
 two-directions row column = (λ e. omega arith, λ e. omega arith)
 
--- What stands behind the links of a listed route is no link's number.
-pub never-a-link : (kind line place : ℕ) → (kind < 6) × (line < 8) × (place < 8) → link kind line place ≡ no-link → ⊥
-never-a-link kind line place small e = omega arith
-
 -- "Route length = column distance + row distance + 2, so 3 to 16."
 pub route-length : (columns s d : ℕ) → length (route columns s d) ≡ distance (s % columns) (d % columns) + distance (s / columns) (d / columns) + 2
 route-length columns s d = length-xy (s / columns) (s % columns) (d / columns) (d % columns)
 
 pub route-most : {columns s d : ℕ} → Ends columns s d → length (route columns s d) ≤ 16
-route-most {columns} {s} {d} e = omega (arith, route-length columns s d, at-node (e .from) .small, at-node (e .to) .small)
+route-most {columns} {s} {d} e = omega (arith, route-length columns s d, ends-on-mesh e)
 
 pub route-least : (columns s d : ℕ) → (s ≡ d → ⊥) → 3 ≤ length (route columns s d)
 route-least columns s d moves = go (decLt (length (route columns s d)) 3)
@@ -69,10 +77,7 @@ route-least columns s d moves = go (decLt (length (route columns s d)) 3)
 
 -- Each link on a route has a number below 384.
 pub link-below : {columns s d : ℕ} → Ends columns s d → (p : ℕ) → p < length (route columns s d) → getD (route columns s d) p 0 < 384
-link-below e p h =
-    let a = at-node (e .from) .small in
-    let b = at-node (e .to) .small in
-    routes-below _ _ _ _ _ _ _ _ (a .0, b .0, a .0, b .0) (a .1, b .1, a .1, b .1) p h .1
+link-below e p h = routes-below _ _ (ends-on-mesh e) (ends-on-mesh e) p h .1
 
 -- "The contention domain of two flows is the set of links on both routes."
 pub domain-both : (a b : List ℕ) (z : ℕ) → on (domain a b) z ≡ (on a z && on b z)
@@ -90,12 +95,7 @@ domain-both (x ∷ a) b z = go (on b x) refl (eqb z x) refl (domain-both a b z)
 -- Two flows of one mesh, the first from `s` to `d` and the second from `s′` to `d′`.
 module _ {columns s d s′ d′ : ℕ} (e : Ends columns s d) (e′ : Ends columns s′ d′) where
   the-run : (x : Span) × Run (route columns s d) (route columns s′ d′) x
-  the-run =
-      let a = at-node (e .from) .small in
-      let b = at-node (e .to) .small in
-      let a′ = at-node (e′ .from) .small in
-      let b′ = at-node (e′ .to) .small in
-      (_, routes-run _ _ _ _ _ _ _ _ (a .0, b .0, a′ .0, b′ .0) (a .1, b .1, a′ .1, b′ .1))
+  the-run = (_, routes-run _ _ (ends-on-mesh e) (ends-on-mesh e′))
 
   -- "It is empty or one unbroken run on each route, in the same order on both. This is to be shown."
   pub one-run : OneRun (route columns s d) (route columns s′ d′)
@@ -114,12 +114,6 @@ module _ {columns s d s′ d′ : ℕ} (e : Ends columns s d) (e′ : Ends colum
   pub first-none : shared-count (route columns s d) (route columns s′ d′) ≡ 0 → first-shared (route columns s d) (route columns s′ d′) ≡ 0
   first-none h = run-counted (the-run .1) .none (omega (arith, run-count (the-run .1)))
 
-  -- Comparing two listed routes gives what the two flows share.
-  pub listed-shares : {entries entries′ : List ℕ} {n n′ count place : ℕ}
-      → Listed (route columns s d) entries n → Listed (route columns s′ d′) entries′ n′
-      → Shares (take n entries) entries′ count place → Shares (route columns s d) (route columns s′ d′) count place
-  listed-shares l l′ = listed-shared l l′ (λ p h. omega (arith, link-below e p h))
-
 -- No link stands twice on a route.
 pub link-once : {columns s d : ℕ} → Ends columns s d → (p q : ℕ) → p < length (route columns s d) → q < length (route columns s d)
     → getD (route columns s d) p 0 ≡ getD (route columns s d) q 0 → p ≡ q
@@ -135,10 +129,5 @@ sides i j k with-i with-k none =
     run-sides (the-run j k .1) (the-run j i .1) (the-run i k .1) with-k (omega (arith, count-symmetric i j)) none
 
 -- Two results that a promise allows for one input coincide.
-pub listed-alike : {links entries entries′ : List ℕ} {n n′ : ℕ} → Listed links entries n → Listed links entries′ n′ → (entries ≡ entries′) × (n ≡ n′)
-listed-alike {links} l l′ =
-    let e = l .long ∙ sym (l′ .long) in
-    (l .held ∙ ap (λ (m : ℕ). links ++ replicate (16 - m) no-link) e ∙ sym (l′ .held), e)
-
 pub shares-alike : {a b : List ℕ} {count count′ place place′ : ℕ} → Shares a b count place → Shares a b count′ place′ → (count ≡ count′) × (place ≡ place′)
 shares-alike r r′ = (r .many ∙ sym (r′ .many), r .place ∙ sym (r′ .place))

@@ -1,13 +1,16 @@
 -- Two XY routes share one unbroken run of links: part by part of the routes, and joined at the seams.
 use Prim.Native.Nat.{ℕ, _+_, _-_, _*_, _<_, max}
 use mathlib.Core.Path.{_≡_, refl}
-use mathlib.Core.List.{[], _∷_}
+use mathlib.Core.List.{[], _∷_, _++_}
 use mathlib.Core.Logic.{_⊎_, inl, inr, ⊎-map, ⊎-elim}
 use native.Mathlib.Omega.{arith}
 use native.Mathlib.Decide.{decLt}
-use Rattle.mesh.specs.Mesh.{link, hops, along, along-column, straight, xy}
-use Rattle.mesh.proofs.Places.{length-hops, before-turn, before-exit, length-before-turn, length-before-exit}
-use Rattle.mesh.proofs.Spans.{Span, Run, line-span, rise, fall, walk-span, entry-span, turn-span, exit-span, route-span}
+use Rattle.mesh.specs.declared.spots.Spot.{Spot}
+use Rattle.mesh.specs.declared.spots.Spots.{Spots}
+use Rattle.mesh.specs.Mesh.{link, injection, ejection, hops, along, along-row, along-column, straight}
+use Rattle.mesh.specs.Halves.{OnMesh, between, to-turn, from-turn}
+use Rattle.mesh.proofs.Places.{length-hops, length-along, in-halves, length-to-turn}
+use Rattle.mesh.proofs.Spans.{Span, Run, rise, fall, walk-span, spot-number, link-span, row-span, column-span, to-span, from-span, route-span}
 use Rattle.mesh.proofs.Runs.{Within, Stretch, meeting, line, join}
 
 -- Walks from `u` to `v` on the line `g` and from `u′` to `v′` on the line `g′`, by links of `kind` or of the kind after it.
@@ -48,7 +51,7 @@ module _ (kind g u v g′ u′ v′ : ℕ) (small : (g < 8) × (u < 8) × (v < 8
       (λ k h. omega arith) (λ k h. omega arith) (λ k k′ h h′. omega arith) (omega arith) (omega arith) (omega arith)
 
   -- Both ways: one of the two has no links, and the farther end is the seam.
-  walk : Stretch (kind * 64) (kind * 64 + 128) (8 * g + u ≡ 8 * g′ + u′) (8 * g + v ≡ 8 * g′ + v′)
+  pub walk : Stretch (kind * 64) (kind * 64 + 128) (8 * g + u ≡ 8 * g′ + u′) (8 * g + v ≡ 8 * g′ + v′)
       (straight kind g u v) (straight kind g′ u′ v′) (walk-span g u v g′ u′ v′)
   unfolding along
   walk =
@@ -61,89 +64,100 @@ module _ (kind g u v g′ u′ v′ : ℕ) (small : (g < 8) × (u < 8) × (v < 8
       (λ s e. far-end (⊎-map (λ x. x) rises s) (⊎-map (λ x. x) falls e))
 
 -- One link on each of two routes: a node's injection or ejection link.
-module _ (kind r c r′ c′ : ℕ) (small : (r < 8) × (c < 8) × (r′ < 8) × (c′ < 8)) where
-  one-node : 0 < line-span 1 (8 * r + c) 1 (8 * r′ + c′) .count → 8 * r + c ≡ 8 * r′ + c′
+module _ (kind : ℕ) (s t : Spot) (small : (s .row < 8) × (s .column < 8) × (t .row < 8) × (t .column < 8)) where
+  one-node : 0 < link-span s t .count → spot-number s ≡ spot-number t
   one-node h = omega arith
 
-  one-link : Stretch (kind * 64) (kind * 64 + 64) (8 * r + c ≡ 8 * r′ + c′) (8 * r + c ≡ 8 * r′ + c′)
-      (link kind r c ∷ []) (link kind r′ c′ ∷ []) (line-span 1 (8 * r + c) 1 (8 * r′ + c′))
+  pub one-link : Stretch (kind * 64) (kind * 64 + 64) (spot-number s ≡ spot-number t) (spot-number s ≡ spot-number t)
+      (link kind (s .row) (s .column) ∷ []) (link kind (t .row) (t .column) ∷ []) (link-span s t)
   unfolding hops
   one-link =
-      line (kind * 64) (kind * 64 + 64) (λ k. link kind r c) (λ k. link kind r′ c′) 1 (8 * r + c) 1 (8 * r′ + c′)
+      line (kind * 64) (kind * 64 + 64) (λ k. link kind (s .row) (s .column)) (λ k. link kind (t .row) (t .column)) 1 (spot-number s) 1 (spot-number t)
       (λ k h. omega arith) (λ k h. omega arith) (λ k k′ h h′. omega arith) (omega arith) (omega arith) (omega arith)
 
--- The first route goes from (r₁, c₁) to (r₂, c₂), the second from (r₃, c₃) to (r₄, c₄).
-module _
-    (r₁ c₁ r₂ c₂ r₃ c₃ r₄ c₄ : ℕ)
-    (rows : (r₁ < 8) × (r₂ < 8) × (r₃ < 8) × (r₄ < 8))
-    (columns : (c₁ < 8) × (c₂ < 8) × (c₃ < 8) × (c₄ < 8))
-  where
-    abbrev entry : Span
-    entry = entry-span r₁ c₁ r₂ c₂ r₃ c₃ r₄ c₄
+some-behind : (x y : ℕ) → (0 < x → ⊥) → 0 < x + y → 0 < y
+some-behind x y none h = omega arith
 
-    abbrev turn : Span
-    turn = turn-span r₁ c₁ r₂ c₂ r₃ c₃ r₄ c₄
+-- Injection, row, column, ejection: at each seam, routes that meet before and after it meet at it.
+module _ (a b : Spots) (on-a : OnMesh a) (on-b : OnMesh b) where
+  abbrev Source : Type 0
+  Source = spot-number (a .source) ≡ spot-number (b .source)
 
-    abbrev exit : Span
-    exit = exit-span r₁ c₁ r₂ c₂ r₃ c₃ r₄ c₄
+  abbrev Turn : Type 0
+  Turn = 8 * a .source .row + a .destination .column ≡ 8 * b .source .row + b .destination .column
 
-    abbrev Source : Type 0
-    Source = 8 * r₁ + c₁ ≡ 8 * r₃ + c₃
+  abbrev Target : Type 0
+  Target = spot-number (a .destination) ≡ spot-number (b .destination)
 
-    abbrev Turn : Type 0
-    Turn = 8 * r₁ + c₂ ≡ 8 * r₃ + c₄
+  sources : (a .source .row < 8) × (a .source .column < 8) × (b .source .row < 8) × (b .source .column < 8)
+  sources = omega arith
 
-    abbrev Target : Type 0
-    Target = 8 * r₂ + c₂ ≡ 8 * r₄ + c₄
+  targets : (a .destination .row < 8) × (a .destination .column < 8) × (b .destination .row < 8) × (b .destination .column < 8)
+  targets = omega arith
 
-    sources : (r₁ < 8) × (c₁ < 8) × (r₃ < 8) × (c₃ < 8)
-    sources = omega arith
+  on-rows : (a .source .row < 8) × (a .source .column < 8) × (a .destination .column < 8) × (b .source .row < 8) × (b .source .column < 8) × (b .destination .column < 8)
+  on-rows = omega arith
 
-    targets : (r₂ < 8) × (c₂ < 8) × (r₄ < 8) × (c₄ < 8)
-    targets = omega arith
+  on-columns : (a .destination .column < 8) × (a .source .row < 8) × (a .destination .row < 8) × (b .destination .column < 8) × (b .source .row < 8) × (b .destination .row < 8)
+  on-columns = omega arith
 
-    on-rows : (r₁ < 8) × (c₁ < 8) × (c₂ < 8) × (r₃ < 8) × (c₃ < 8) × (c₄ < 8)
-    on-rows = omega arith
+  pub injections : Stretch 0 64 Source Source (injection (a .source .row) (a .source .column) ∷ []) (injection (b .source .row) (b .source .column) ∷ []) (link-span (a .source) (b .source))
+  injections = one-link 0 (a .source) (b .source) sources
 
-    on-columns : (c₂ < 8) × (r₁ < 8) × (r₂ < 8) × (c₄ < 8) × (r₃ < 8) × (r₄ < 8)
-    on-columns = omega arith
+  pub row-walks : Stretch 64 192 Source Turn (along-row (a .source .row) (a .source .column) (a .destination .column)) (along-row (b .source .row) (b .source .column) (b .destination .column)) (row-span a b)
+  row-walks = walk 1 _ _ _ _ _ _ on-rows
 
-    column-walk : Stretch 192 320 Turn Target (along-column c₂ r₁ r₂) (along-column c₄ r₃ r₄) (walk-span c₂ r₁ r₂ c₄ r₃ r₄)
-    column-walk = meeting (omega arith) (omega arith) (walk 3 c₂ r₁ r₂ c₄ r₃ r₄ on-columns)
+  pub column-walks : Stretch 192 320 Turn Target (along-column (a .destination .column) (a .source .row) (a .destination .row)) (along-column (b .destination .column) (b .source .row) (b .destination .row)) (column-span a b)
+  column-walks = meeting (omega arith) (omega arith) (walk 3 _ _ _ _ _ _ on-columns)
 
-    -- Routes that share a link before the turn are in one row; those that share one behind it go to one column.
-    same-row : Source ⊎ (0 < turn .count) → r₁ ≡ r₃
-    same-row (inl s) = omega arith
-    same-row (inr h) = go (decLt 0 (entry .count))
-      where
-        go : Dec (0 < entry .count) → r₁ ≡ r₃
-        go (yes e) = omega (arith, one-node 0 r₁ c₁ r₃ c₃ sources e)
-        go (no e) = one-line 1 r₁ c₁ c₂ r₃ c₃ c₄ on-rows (omega arith)
+  pub ejections : Stretch 320 384 Target Target (ejection (a .destination .row) (a .destination .column) ∷ []) (ejection (b .destination .row) (b .destination .column) ∷ []) (link-span (a .destination) (b .destination))
+  ejections = one-link 5 (a .destination) (b .destination) targets
 
-    same-column : Target ⊎ (0 < walk-span c₂ r₁ r₂ c₄ r₃ r₄ .count) → c₂ ≡ c₄
-    same-column (inl e) = omega arith
-    same-column (inr h) = one-line 3 c₂ r₁ r₂ c₄ r₃ r₄ on-columns h
+  pub halves-to : Stretch 0 192 Source Turn (to-turn a) (to-turn b) (to-span a b)
+  halves-to =
+      join (omega arith) refl refl injections row-walks
+      (λ s e. ⊎-elim (λ x. x) (one-node 0 (a .source) (b .source) sources) s)
 
-    -- Injection, row, column, ejection: at each seam, routes that meet before and after it meet at it.
-    to-turn : Stretch 0 192 Source Turn (before-turn r₁ c₁ r₂ c₂) (before-turn r₃ c₃ r₄ c₄) turn
-    to-turn =
-        join (omega arith) refl refl (one-link 0 r₁ c₁ r₃ c₃ sources) (walk 1 r₁ c₁ c₂ r₃ c₃ c₄ on-rows)
-        (λ s e. ⊎-elim (λ x. x) (one-node 0 r₁ c₁ r₃ c₃ sources) s)
+  pub halves-from : Stretch 192 384 Turn Target (from-turn a) (from-turn b) (from-span a b)
+  halves-from =
+      join (omega arith) (length-along _ _ _ _) (length-along _ _ _ _) column-walks ejections
+      (λ s e. ⊎-elim (λ x. x) (one-node 5 (a .destination) (b .destination) targets) e)
 
-    to-exit : Stretch 0 320 Source Target (before-exit r₁ c₁ r₂ c₂) (before-exit r₃ c₃ r₄ c₄) exit
-    to-exit =
-        join (omega arith) (length-before-turn r₁ c₁ r₂ c₂) (length-before-turn r₃ c₃ r₄ c₄) to-turn column-walk
-        (λ s e. omega (arith, same-row s, same-column e))
+  -- Routes that share a link before the turn are in one row; those that share one behind it go to one column.
+  pub same-row : Source ⊎ (0 < to-span a b .count) → a .source .row ≡ b .source .row
+  same-row (inl s) = omega arith
+  same-row (inr h) = go (decLt 0 (link-span (a .source) (b .source) .count))
+    where
+      go : Dec (0 < link-span (a .source) (b .source) .count) → a .source .row ≡ b .source .row
+      go (yes e) = omega (arith, one-node 0 (a .source) (b .source) sources e)
+      go (no e) = one-line 1 _ _ _ _ _ _ on-rows (omega arith)
 
-    routes-stretch : Stretch 0 384 Source Target (xy r₁ c₁ r₂ c₂) (xy r₃ c₃ r₄ c₄) (route-span r₁ c₁ r₂ c₂ r₃ c₃ r₄ c₄)
-    unfolding xy
-    routes-stretch =
-        join (omega arith) (length-before-exit r₁ c₁ r₂ c₂) (length-before-exit r₃ c₃ r₄ c₄) to-exit (one-link 5 r₂ c₂ r₄ c₄ targets)
-        (λ s e. ⊎-elim (λ x. x) (one-node 5 r₂ c₂ r₄ c₄ targets) e)
+  pub same-column : Target ⊎ (0 < from-span a b .count) → a .destination .column ≡ b .destination .column
+  same-column (inl e) = omega arith
+  same-column (inr h) = go (decLt 0 (link-span (a .destination) (b .destination) .count))
+    where
+      go : Dec (0 < link-span (a .destination) (b .destination) .count) → a .destination .column ≡ b .destination .column
+      go (yes e) = omega (arith, one-node 5 (a .destination) (b .destination) targets e)
+      go (no e) = one-line 3 _ _ _ _ _ _ on-columns (omega arith)
 
-    pub routes-run : Run (xy r₁ c₁ r₂ c₂) (xy r₃ c₃ r₄ c₄) (route-span r₁ c₁ r₂ c₂ r₃ c₃ r₄ c₄)
-    routes-run = routes-stretch .run
+  pub cannot-meet : (a .source .row ≡ b .source .row → ⊥) → (a .destination .column ≡ b .destination .column → ⊥) → 0 < route-span a b .count → ⊥
+  cannot-meet rows columns h = go (decLt 0 (to-span a b .count))
+    where
+      go : Dec (0 < to-span a b .count) → ⊥
+      go (yes l) = rows (same-row (inr l))
+      go (no l) = columns (same-column (inr (some-behind (to-span a b .count) (from-span a b .count) l h)))
 
-    -- Each link's number is below 384.
-    pub routes-below : Within 0 384 (xy r₁ c₁ r₂ c₂)
-    routes-below = routes-stretch .within .0
+  routes : Stretch 0 384 Source Target (to-turn a ++ from-turn a) (to-turn b ++ from-turn b) (route-span a b)
+  routes =
+      join (omega arith) (length-to-turn a) (length-to-turn b) halves-to halves-from
+      (λ s e. omega (arith, same-row s, same-column e))
+
+  pub halves-run : Run (to-turn a ++ from-turn a) (to-turn b ++ from-turn b) (route-span a b)
+  halves-run = routes .run
+
+  pub routes-run : Run (between a) (between b) (route-span a b)
+  routes-run = rw (in-halves a, in-halves b) halves-run
+
+  -- Each link's number is below 384.
+  pub routes-below : Within 0 384 (between a)
+  routes-below = rw (in-halves a) (routes .within .0)

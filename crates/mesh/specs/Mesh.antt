@@ -2,7 +2,6 @@
 use Prim.Native.Nat.{ℕ, zero, suc, _+_, _-_, _*_, _/_, _%_, _≤_, _<_}
 use mathlib.Core.List.{List, [], _∷_, _++_}
 use mathlib.Core.Path.{_≡_}
-use lib.ListN.{length, replicate}
 
 -- "columns (1): 1..8; rows (1): 1..8 .. source (1) and destination (1): below columns x rows": `n` is a node of a mesh with so many columns.
 pub record Node (columns n : ℕ) : Type 0 where
@@ -19,12 +18,6 @@ pub record Ends (columns source destination : ℕ) : Type 0 where
 -- "Node number = row x columns + column."
 abbrev pub node : ℕ → ℕ → ℕ → ℕ
 node columns row column = row * columns + column
-
--- Node `n` stands at this row and this column, both below 8.
-pub record At (columns n row column : ℕ) : Type 0 where
-  pub row-is : row ≡ n / columns
-  pub column-is : column ≡ n % columns
-  pub small : (row < 8) × (column < 8)
 
 -- Each link has a number below 384. There are six kinds; a line is a row or a column, and a place is the node's on that line.
 abbrev pub link : ℕ → ℕ → ℕ → ℕ
@@ -84,13 +77,3 @@ route columns source destination = xy (source / columns) (source % columns) (des
 -- "Route length = column distance + row distance + 2": how far two columns or two rows are apart.
 abbrev pub distance : ℕ → ℕ → ℕ
 distance u v = (v - u) + (u - v)
-
--- What stands behind the links of a listed route: the number of no link.
-abbrev pub no-link : ℕ
-no-link = 65535
-
--- A route listed in 16 entries, and its length.
-pub record Listed (links entries : List ℕ) (n : ℕ) : Type 0 where
-  pub long : n ≡ length links
-  pub fits : n ≤ 16
-  pub held : entries ≡ links ++ replicate (16 - n) no-link

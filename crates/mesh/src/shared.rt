@@ -1,9 +1,12 @@
-// The links that two listed routes share.
-use crate::route::Route;
-ghost use mathlib.Core.Path.{_≡_};
-ghost use Prim.Native.Nat.{_≤_};
-ghost use lib.ListN.{length, take};
-ghost use Rattle.mesh.specs.Shared.{on, Shares};
+// The links that two routes share, from the rows and columns of their ends: no route is listed.
+ghost use Rattle.mesh.specs.Shared.{Shares};
+ghost use Rattle.mesh.specs.Halves.{OnMesh, to-turn, from-turn, between};
+use crate::spots::Spots;
+use crate::stretch::distance;
+use crate::stretch::joined;
+use crate::stretch::nothing;
+use crate::stretch::shared_hops;
+use crate::stretch::shared_link;
 
 // What the analysis keeps of an ordered pair of flows: how many links they share, and the place of the first on the first one's route.
 pub struct Pair {
@@ -11,40 +14,52 @@ pub struct Pair {
     pub first: u8,
 }
 
-// Whether the link stands among the entries. All of them are compared: no branch depends on a length.
-fn stands_on(links: &[u16; 16], x: u16) -> bool
-    requires { ⌜ length (now links) ≡ 16 ⌝ }
-    ensures { λ r. ⌜ r ≡ on (now (links .entry)) x ⌝ }
+// Up to the turn: the injection links, then the hops along the rows. They are shared in one row alone.
+fn shared_to_turn(a: Spots, b: Spots) -> Pair
+    requires { ⌜ OnMesh a × OnMesh b ⌝ }
+    ensures { λ r. ⌜ Shares (to-turn a) (to-turn b) (r .count) (r .first) ⌝ }
 {
-    let mut found = false;
-    let mut i = 0;
-    while i < 16 {
-        found = found | (x == links[i]);
-        i += 1;
+    if a.source.row == b.source.row {
+        let injection = shared_link(a.source.column == b.source.column);
+        let hops = shared_hops(
+            a.source.column,
+            a.destination.column,
+            b.source.column,
+            b.destination.column,
+        );
+        return joined(1, injection, hops);
     }
-    found
+    nothing()
 }
 
-// Compares two listed routes. What stands behind the second one's links is no link, so all its entries are compared.
-pub fn shared_links(a: Route, b: Route) -> Pair
-    requires { ⌜ a .length ≤ 16 ⌝ }
-    ensures { λ r. ⌜ Shares (take (a .length) (a .links)) (b .links) (r .count) (r .first) ⌝ }
+// From the turn on: the hops along the columns, then the ejection links. They are shared in one column alone.
+fn shared_from_turn(a: Spots, b: Spots) -> Pair
+    requires { ⌜ OnMesh a × OnMesh b ⌝ }
+    ensures { λ r. ⌜ Shares (from-turn a) (from-turn b) (r .count) (r .first) ⌝ }
 {
-    let own = a.links;
-    let others = b.links;
-    let mut count: u8 = 0;
-    let mut first: u8 = 0;
-    let mut left = a.length;
-    while 0 < left {
-        let place = left - 1;
-        if stands_on(&others, own[place]) {
-            count += 1;
-            first = place as u8;
+    if a.destination.column == b.destination.column {
+        let hops = shared_hops(
+            a.source.row,
+            a.destination.row,
+            b.source.row,
+            b.destination.row,
+        );
+        let ejection = shared_link(a.destination.row == b.destination.row);
+        return joined(distance(a.source.row, a.destination.row), hops, ejection);
+    }
+    nothing()
+}
+
+pub fn shared_links(a: Spots, b: Spots) -> Pair
+    requires { ⌜ OnMesh a × OnMesh b ⌝ }
+    ensures { λ r. ⌜ Shares (between a) (between b) (r .count) (r .first) ⌝ }
+{
+    // Most flows cannot meet: neither along a row nor along a column.
+    if a.source.row != b.source.row {
+        if a.destination.column != b.destination.column {
+            return nothing();
         }
-        left = place;
     }
-    Pair {
-        count: count,
-        first: first,
-    }
+    let turn = 1 + distance(a.source.column, a.destination.column);
+    joined(turn, shared_to_turn(a, b), shared_from_turn(a, b))
 }

@@ -94,8 +94,8 @@ fn compared(columns: u8, e: Flows, d: Digest) -> Digest
     if e.source2 == e.destination2 {
         return d;
     }
-    let a = mesh::route::list_route(columns, e.source, e.destination);
-    let b = mesh::route::list_route(columns, e.source2, e.destination2);
+    let a = mesh::spots::spots_of(columns, e.source, e.destination);
+    let b = mesh::spots::spots_of(columns, e.source2, e.destination2);
     told(d, mesh::shared::shared_links(a, b))
 }
 

@@ -1,3 +1,4 @@
 mod Filling
 pub mod Tables
 pub mod Cells
+mod Standing

@@ -1,16 +1,17 @@
 // The pair table: for every ordered pair of flows the count of shared links and the place of the first.
 ghost use mathlib.Core.Path.{_≡_};
-ghost use mathlib.Core.List.{[], map};
-ghost use Prim.Native.Nat.{_≤_};
+ghost use mathlib.Core.List.{map};
 ghost use lib.ListN.{take};
 ghost use Rattle.plan.specs.Padded.{padded};
 ghost use Rattle.pairs.specs.Scene.{Scene};
-ghost use Rattle.pairs.specs.Pairs.{listed, listedOf, noPair, rowOf, pairTable};
-use mesh::route::NO_LINK;
-use mesh::route::Route;
-use mesh::route::list_route;
+ghost use Rattle.mesh.specs.Halves.{OnMesh};
+ghost use Rattle.pairs.specs.Pairs.{noPair, pairTable};
+ghost use Rattle.pairs.specs.Spots.{noSpots, spotsIn, rowOf, AllOnMesh};
 use mesh::shared::Pair;
 use mesh::shared::shared_links;
+use mesh::spots::Spot;
+use mesh::spots::Spots;
+use mesh::spots::spots_of;
 use plan::Flows;
 use plan::Platform;
 
@@ -19,7 +20,7 @@ pub type PairRow = [Pair; 64];
 
 pub type PairTable = [PairRow; 64];
 
-type Routes = [Route; 64];
+type AllSpots = [Spots; 64];
 
 fn no_pair() -> Pair
     ensures { λ r. ⌜ r ≡ noPair ⌝ }
@@ -27,39 +28,39 @@ fn no_pair() -> Pair
     Pair { count: 0, first: 0 }
 }
 
-fn no_route() -> Route
-    ensures { λ r. ⌜ r ≡ listed [] ⌝ }
+fn no_spots() -> Spots
+    ensures { λ r. ⌜ r ≡ noSpots ⌝ }
 {
-    Route {
-        links: [NO_LINK; 16],
-        length: 0,
+    Spots {
+        source: Spot { row: 0, column: 0 },
+        destination: Spot { row: 0, column: 0 },
     }
 }
 
-// Each flow's route is listed once.
-fn list_routes(platform: Platform, flows: Flows, count: usize) -> Routes
+// Each flow's rows and columns are worked out once.
+fn all_spots(platform: Platform, flows: Flows, count: usize) -> AllSpots
     requires { ⌜ Scene platform flows count ⌝ }
-    ensures { λ r. ⌜ r ≡ padded (listed []) (map (listedOf platform) (take count flows)) ⌝ }
+    ensures { λ r. ⌜ r ≡ padded noSpots (map (spotsIn platform) (take count flows)) ⌝ }
 {
-    let mut routes = [no_route(); 64];
+    let mut spots = [no_spots(); 64];
     let mut i: usize = 0;
     while i < count {
         let f = flows[i];
-        routes[i] = list_route(platform.columns, f.source, f.destination);
+        spots[i] = spots_of(platform.columns, f.source, f.destination);
         i += 1;
     }
-    routes
+    spots
 }
 
-// What one flow's route shares with each.
-fn pair_row(own: Route, routes: Routes, count: usize) -> PairRow
-    requires { ⌜ (own .length ≤ 16) × (count ≤ 64) ⌝ }
-    ensures { λ r. ⌜ r ≡ rowOf (take count routes) own ⌝ }
+// What one flow shares with each.
+fn pair_row(own: Spots, spots: AllSpots, count: usize) -> PairRow
+    requires { ⌜ OnMesh own × AllOnMesh spots count ⌝ }
+    ensures { λ r. ⌜ r ≡ rowOf (take count spots) own ⌝ }
 {
     let mut row = [no_pair(); 64];
     let mut j: usize = 0;
     while j < count {
-        row[j] = shared_links(own, routes[j]);
+        row[j] = shared_links(own, spots[j]);
         j += 1;
     }
     row
@@ -69,11 +70,11 @@ pub fn pair_table(platform: Platform, flows: Flows, count: usize) -> PairTable
     requires { ⌜ Scene platform flows count ⌝ }
     ensures { λ r. ⌜ r ≡ pairTable platform (take count flows) ⌝ }
 {
-    let routes = list_routes(platform, flows, count);
+    let spots = all_spots(platform, flows, count);
     let mut table = [[no_pair(); 64]; 64];
     let mut i: usize = 0;
     while i < count {
-        table[i] = pair_row(routes[i], routes, count);
+        table[i] = pair_row(spots[i], spots, count);
         i += 1;
     }
     table

@@ -3,21 +3,22 @@ use Prim.Native.Nat.{_-_}
 use native.Mathlib.Omega.{arith}
 use mathlib.Core.Path.{ap, _∙_}
 use lib.ListN.{take, replicate}
-use Rattle.pairs.specs.Pairs.{noRow, rowOf}
+use Rattle.pairs.specs.Pairs.{noRow}
+use Rattle.pairs.specs.Spots.{rowOf}
 use Rattle.pairs.proofs.Filling.{Filling, filling-none, filling-room, filling-more, filling-all}
-use Rattle.pairs.proofs.Tables.{route-short, table-is}
+use Rattle.pairs.proofs.Standing.{spots-on-mesh, table-is}
 use borrow.Author.Needs.{needs}
 use Rattle.pairs.proofs.pair_table.Statement.{statement}
 use Rattle.pairs.proofs.pair_table.Tie as tie
 
 abbrev Inv-loop : tie.InvT-loop
-Inv-loop count routes table₀ i₀ table i = Filling noRow (rowOf (take count routes)) routes count table i
+Inv-loop count spots table₀ i₀ table i = Filling noRow (rowOf (take count spots)) spots count table i
 
 abbrev μ-loop : tie.MeasureT-loop
-μ-loop count routes table₀ i₀ table i = count - i
+μ-loop count spots table₀ i₀ table i = count - i
 
-list-routes-requires : tie.Need-list-routes-requires Inv-loop μ-loop
-list-routes-requires c κs = search needs
+all-spots-requires : tie.Need-all-spots-requires Inv-loop μ-loop
+all-spots-requires c κs = search needs
 
 no-pair-requires : tie.Need-no-pair-requires Inv-loop μ-loop
 no-pair-requires c κs = search needs
@@ -32,8 +33,9 @@ array-copy-out-pair-row : tie.Need-array-copy-out-pair-row Inv-loop μ-loop
 array-copy-out-pair-row c = search needs
 
 pair-row-requires : tie.Need-pair-row-requires Inv-loop μ-loop
-pair-row-requires c κs = let l = c .before .before .loop in
-    (route-short (c .before .before .before .before .before .pre) (c .before .before .before .before .list-routes .ensures) (l .i) _ (c .before .loop-test .taken) (l .inv .room), l .inv .few)
+pair-row-requires c κs =
+    let on = spots-on-mesh (c .before .before .before .before .before .pre) (c .before .before .before .before .all-spots .ensures) in
+    (on .each _ (c .before .loop-test .taken), on)
 
 mul-table : tie.Need-mul-table Inv-loop μ-loop
 mul-table c = search needs
@@ -51,7 +53,7 @@ loop-again : tie.Need-loop-again Inv-loop μ-loop
 loop-again c = filling-more (c .before .before .before .loop .inv) _ (c .before .before .loop-test .taken) (c .pair-row .ensures)
 
 returns : tie.Need-returns Inv-loop μ-loop
-returns c = filling-all (c .before .loop .inv) (search needs) ∙ table-is (c .before .before .before .before .pre) (c .before .before .before .list-routes .ensures)
+returns c = filling-all (c .before .loop .inv) (search needs) ∙ table-is (c .before .before .before .before .pre) (c .before .before .before .all-spots .ensures)
 
 pub pair-table-spec : {M : Type 1} → statement M
 pair-table-spec =
@@ -59,7 +61,7 @@ pair-table-spec =
     (tie.spec
     Inv-loop
     μ-loop
-    list-routes-requires
+    all-spots-requires
     no-pair-requires
     loop-holds
     mul-pair-row

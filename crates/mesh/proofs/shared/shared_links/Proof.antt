@@ -1,83 +1,55 @@
--- `mesh::shared::shared_links` meets its contract. The loop's invariant: the first route's links from place `left` on have been compared.
+-- `mesh::shared::shared_links` meets its contract: a route is its two halves, one behind the other.
 use native.Mathlib.Omega.{arith}
 use borrow.Author.Needs.{needs}
-use Rattle.mesh.proofs.Scan.{array-full, Scanned, scan-start, scan-on, scan-off, scan-end}
+use Rattle.mesh.proofs.Places.{in-halves, short-to-turn, short-from-turn}
+use Rattle.mesh.proofs.Walks.{halves-to, halves-from, halves-run, routes-run, cannot-meet}
+use Rattle.mesh.proofs.Keeping.{joined-shares, none-shared, shares-within}
 use Rattle.mesh.proofs.shared.shared_links.Statement.{statement}
 use Rattle.mesh.proofs.shared.shared_links.Tie as tie
 
-abbrev Inv-loop : tie.InvT-loop
-Inv-loop own others count₀ first₀ left₀ count first left = Scanned own left₀ others left count first
+nothing-requires : tie.Need-nothing-requires
+nothing-requires c κs = search needs
 
-abbrev μ-loop : tie.MeasureT-loop
-μ-loop own others count₀ first₀ left₀ count first left = left
+returns : tie.Need-returns
+returns c =
+    let on = c .before .before .before .before .before .before .before .pre in
+    none-shared (routes-run _ _ (on .0) (on .1)) (cannot-meet _ _ (on .0) (on .1) (c .before .before .before .before .if1 .taken) (c .before .if2 .taken)) (c .nothing .ensures .0) (c .nothing .ensures .1)
 
-loop-holds : tie.Need-loop-holds Inv-loop μ-loop
-loop-holds c =
-    let s = c .before .before in
-    let full = array-full (s .args .a .links) (s .good .0 .1 .1 .0 .1 .0 .1) in
-    let full′ = array-full (s .args .b .links) (s .good .1 .0 .1 .1 .0 .1 .0 .1) in
-    scan-start (omega arith) (omega arith) (omega arith)
+distance-requires : tie.Need-distance-requires
+distance-requires c κs = search needs
 
-sub-place : tie.Need-sub-place Inv-loop μ-loop
-sub-place c = search needs
+add-turn : tie.Need-add-turn
+add-turn c = search needs
 
-mul-stands-on : tie.Need-mul-stands-on Inv-loop μ-loop
-mul-stands-on c = search needs
+shared-to-turn-requires : tie.Need-shared-to-turn-requires
+shared-to-turn-requires c κs = search needs
 
-array-read-stands-on : tie.Need-array-read-stands-on Inv-loop μ-loop
-array-read-stands-on c = search needs
+shared-from-turn-requires : tie.Need-shared-from-turn-requires
+shared-from-turn-requires c κs = search needs
 
-stands-on-requires : tie.Need-stands-on-requires Inv-loop μ-loop
-stands-on-requires c κs = c .before .before .loop .inv .full .1
+joined-requires : tie.Need-joined-requires
+joined-requires c κs =
+    let on = c .before .before .before .before .before .before .pre in
+    omega (arith, shares-within (halves-to _ _ (on .0) (on .1) .run) (c .before .shared-to-turn .ensures), shares-within (halves-from _ _ (on .0) (on .1) .run) (c .shared-from-turn .ensures), short-to-turn (on .0), short-from-turn (on .0))
 
-add-count : tie.Need-add-count Inv-loop μ-loop
-add-count c = search needs
-
-cast-first : tie.Need-cast-first Inv-loop μ-loop
-cast-first c = search needs
-
-loop-less : tie.Need-loop-less Inv-loop μ-loop
-loop-less c = search needs
-
-loop-again : tie.Need-loop-again Inv-loop μ-loop
-loop-again c =
-    scan-on
-    (c .before .before .before .before .loop .inv)
-    (omega arith)
-    _
-    (c .before .stands-on .ensures)
-    (c .if1 .taken)
-
-loop-less-2 : tie.Need-loop-less-2 Inv-loop μ-loop
-loop-less-2 c = search needs
-
-loop-again-2 : tie.Need-loop-again-2 Inv-loop μ-loop
-loop-again-2 c =
-    scan-off
-    (c .before .before .before .before .loop .inv)
-    (omega arith)
-    _
-    (c .before .stands-on .ensures)
-    (c .if1 .left)
-
-returns : tie.Need-returns Inv-loop μ-loop
-returns c = scan-end (c .before .loop .inv) (omega arith)
+returns-2 : tie.Need-returns-2
+returns-2 c =
+    let on = c .before .before .before .before .before .before .before .pre in
+    rw (in-halves, in-halves)
+    (joined-shares _ (halves-to _ _ (on .0) (on .1) .run) (halves-from _ _ (on .0) (on .1) .run) (halves-run _ _ (on .0) (on .1))
+    (c .before .before .shared-to-turn .ensures)
+    (c .before .shared-from-turn .ensures)
+    (rw (c .before .before .before .distance .ensures .0) at (c .joined .ensures)))
 
 pub shared-links-spec : {M : Type 1} → statement M
 shared-links-spec =
     tie.close
     (tie.spec
-    Inv-loop
-    μ-loop
-    loop-holds
-    sub-place
-    mul-stands-on
-    array-read-stands-on
-    stands-on-requires
-    add-count
-    cast-first
-    loop-less
-    loop-again
-    loop-less-2
-    loop-again-2
-    returns)
+    nothing-requires
+    returns
+    distance-requires
+    add-turn
+    shared-to-turn-requires
+    shared-from-turn-requires
+    joined-requires
+    returns-2)
