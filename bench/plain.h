@@ -9,11 +9,7 @@
 /* The fastest form (plain.c). */
 struct lingfallow_returned plain_analyse(const uint8_t *plan, size_t plan_length, uint8_t *reply, size_t reply_length);
 
-/* Flow after flow in plan order; routes are not listed (steps.c). */
+/* Flow after flow in plan order (steps.c). */
 struct lingfallow_returned steps_analyse(const uint8_t *plan, size_t plan_length, uint8_t *reply, size_t reply_length);
-
-/* The same with routes listed (steps.c with -DSTEPS_LISTED). */
-struct lingfallow_returned steps_analyse_listed(const uint8_t *plan, size_t plan_length, uint8_t *reply,
-                                                size_t reply_length);
 
 #endif

@@ -1,14 +1,8 @@
-/* Document 01 in plain C11, flow after flow: every search and every sum goes over all flows in plan order, the pair
- * table is an array of arrays. The product did so too before it listed direct flows. With -DSTEPS_LISTED routes are listed and compared link by link; without it shared
- * links are worked out from rows and columns.
+/* Document 01 in plain C11, flow after flow: every search and every sum goes over all flows in plan order, as the
+ * product's did before it listed direct flows; the pair table is an array of arrays, and shared links are worked out
+ * from rows and columns.
  */
 #include "common.h"
-
-#ifdef STEPS_LISTED
-#define ANALYSE steps_analyse_listed
-#else
-#define ANALYSE steps_analyse
-#endif
 
 struct flow {
     uint16_t id, priority;
@@ -36,8 +30,6 @@ struct work {
 };
 
 /* ---- shared links */
-
-#ifndef STEPS_LISTED
 
 /* The ends of a route. */
 struct ends {
@@ -93,64 +85,6 @@ static void pair_table(struct work *w) {
         }
     }
 }
-
-#else
-
-enum { INJECTION = 0, EAST = 1, WEST = 2, SOUTH = 3, NORTH = 4, EJECTION = 5, KINDS = 6, NODES = SIDE * SIDE };
-
-/* Lists the route's links, and returns how many they are. */
-static size_t list_route(uint16_t *links, unsigned columns, unsigned node, unsigned destination) {
-    size_t length = 0;
-    unsigned column = node % columns, column_to = destination % columns;
-    links[length++] = (uint16_t)(INJECTION * NODES + node);
-    for (; column < column_to; column++, node++) {
-        links[length++] = (uint16_t)(EAST * NODES + node);
-    }
-    for (; column > column_to; column--, node--) {
-        links[length++] = (uint16_t)(WEST * NODES + node);
-    }
-    for (; node < destination; node += columns) {
-        links[length++] = (uint16_t)(SOUTH * NODES + node);
-    }
-    for (; node > destination; node -= columns) {
-        links[length++] = (uint16_t)(NORTH * NODES + node);
-    }
-    links[length++] = (uint16_t)(EJECTION * NODES + node);
-    return length;
-}
-
-/* Goes along a listed route and looks each link up among the places of another's: LONGEST_ROUTE where it has none. */
-static inline struct pair compare_routes(const uint8_t *places, const uint16_t *links, size_t length) {
-    unsigned count = 0, least = LONGEST_ROUTE;
-    for (size_t k = 0; k < length; k++) {
-        unsigned place = places[links[k]];
-        count += place < LONGEST_ROUTE;
-        least = place < least ? place : least;
-    }
-    return (struct pair){(uint8_t)count, (uint8_t)(least % LONGEST_ROUTE)};
-}
-
-static void pair_table(struct work *w) {
-    uint16_t links[MOST_FLOWS][LONGEST_ROUTE];
-    uint8_t places[KINDS * NODES], length[MOST_FLOWS];
-    memset(places, LONGEST_ROUTE, sizeof places);
-    for (size_t i = 0; i < w->count; i++) {
-        length[i] = (uint8_t)list_route(links[i], w->columns, w->flows[i].source, w->flows[i].destination);
-    }
-    for (size_t i = 0; i < w->count; i++) {
-        for (size_t k = 0; k < length[i]; k++) {
-            places[links[i][k]] = (uint8_t)k;
-        }
-        for (size_t j = 0; j < w->count; j++) {
-            w->table[i][j] = compare_routes(places, links[j], length[j]);
-        }
-        for (size_t k = 0; k < length[i]; k++) {
-            places[links[i][k]] = LONGEST_ROUTE;
-        }
-    }
-}
-
-#endif
 
 /* ---- who delays whom, and by how much */
 
@@ -269,6 +203,6 @@ static void analyse_plan(const uint8_t *bytes, const struct reading *r, uint8_t 
     }
 }
 
-struct lingfallow_returned ANALYSE(const uint8_t *plan, size_t plan_length, uint8_t *reply, size_t reply_length) {
+struct lingfallow_returned steps_analyse(const uint8_t *plan, size_t plan_length, uint8_t *reply, size_t reply_length) {
     return analyse_with(analyse_plan, plan, plan_length, reply, reply_length);
 }

@@ -1,4 +1,4 @@
-/* What is measured: the library call and the three forms of document 01 in C. */
+/* What is measured: the library call and the two forms of document 01 in C. */
 #ifndef SUBJECTS_H
 #define SUBJECTS_H
 
@@ -12,13 +12,12 @@ struct subject {
     struct lingfallow_returned (*analyse)(const uint8_t *, size_t, uint8_t *, size_t);
 };
 
-enum { SUBJECTS = 4, ROOM = LINGFALLOW_DECIDING_BYTES };
+enum { SUBJECTS = 3, ROOM = LINGFALLOW_DECIDING_BYTES };
 
 static const struct subject subjects[SUBJECTS] = {
     {"lingfallow_analyse", lingfallow_analyse},
     {"plain_analyse", plain_analyse},
     {"steps_analyse", steps_analyse},
-    {"steps_analyse_listed", steps_analyse_listed},
 };
 
 /* Reads a plan's bytes into room for any of them. */
