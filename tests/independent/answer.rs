@@ -3,6 +3,7 @@
 use crate::claims;
 use crate::law::{Law, Rule};
 use crate::model::{bytes_of, Flow, Number, Plan};
+use crate::pairs::Pair;
 use crate::reading::{read, Refusal};
 use crate::rules::{method_used, Analysis, Verdict};
 
@@ -18,6 +19,8 @@ pub struct Judged {
 pub struct Accepted {
     pub plan: Plan,
     pub judged: Vec<Judged>,
+    /// Each two flows once, the earlier of the plan first.
+    pub pairs: Vec<Pair>,
     pub reply: Vec<u8>,
     pub upstream: usize,
     pub downstream: usize,
@@ -42,14 +45,16 @@ fn accepted(plan: Plan, law: Law) -> Result<Expected, String> {
     if law.is_whole() {
         claims::check(&analysis)?;
     }
-    let pairs = (0..plan.flows.len()).flat_map(|i| analysis.direct(i).into_iter().map(move |j| (i, j)));
-    let (upstream, downstream) = pairs.fold((0, 0), |(up, down), (i, j)| {
+    let direct = (0..plan.flows.len()).flat_map(|i| analysis.direct(i).into_iter().map(move |j| (i, j)));
+    let (upstream, downstream) = direct.fold((0, 0), |(up, down), (i, j)| {
         (up + analysis.upstream(i, j).len(), down + analysis.downstream(i, j).len())
     });
     let judged = (0..plan.flows.len()).map(|i| judged(&analysis, i)).collect();
+    let pairs = (0..plan.flows.len()).flat_map(|j| (0..j).map(move |i| (i, j)));
+    let pairs = pairs.map(|(i, j)| analysis.pair(i, j)).collect();
     let reply = reply(&plan, &verdicts, law);
     let text = text(&plan, &verdicts, law);
-    Ok(Expected { answer: Ok(Accepted { plan, judged, reply, upstream, downstream }), text })
+    Ok(Expected { answer: Ok(Accepted { plan, judged, pairs, reply, upstream, downstream }), text })
 }
 
 fn judged(analysis: &Analysis, i: usize) -> Judged {

@@ -1,12 +1,13 @@
 //! The fixed list: plan P with its reply and text, every row of "Figures to meet", typed from document 01, every
-//! refusal of a field, typed from L2 of document 02, and the rows of L3.
+//! refusal of a field, typed from L2 of document 02, the rows of L3, and the corners of L4.
 
 use crate::answer::Expected;
 use crate::compare::Trial;
+use crate::corners::{Corner, Turned, MESH, PAIRS, PLANS};
 use crate::disagreement::{agree, hex, Disagreement};
 use crate::edits::writing_of;
 use crate::law::Law;
-use crate::model::{Flow, Plan, Platform};
+use crate::model::{Flow, Number, Plan, Platform};
 use crate::product::{call_library, Lent};
 use crate::random::Random;
 use crate::reading::plan_at;
@@ -113,7 +114,11 @@ fn typed(text: &str) -> Vec<u8> {
 
 /// P with these bytes at these places.
 fn p_with(changes: &[(usize, &[u8])]) -> Vec<u8> {
-    let mut bytes = typed(P);
+    changed(P, changes)
+}
+
+fn changed(plan: &str, changes: &[(usize, &[u8])]) -> Vec<u8> {
+    let mut bytes = typed(plan);
     for (place, new) in changes {
         bytes[*place..place + new.len()].copy_from_slice(new);
     }
@@ -155,14 +160,35 @@ impl Fixed<'_> {
         short_and_exact(&bytes)
     }
 
-    fn row(&mut self, row: &Row) -> Result<(), Disagreement> {
-        let bytes = p_with(row.0);
-        let text = self.agree(&bytes)?.text;
-        for line in row.1 {
+    fn lines(&mut self, bytes: &[u8], about: &str, lines: &[&str]) -> Result<(), Disagreement> {
+        let text = self.agree(bytes)?.text;
+        for line in lines {
             let found = text.lines().find(|printed| printed == line);
-            figure(&bytes, "a row", line.to_string(), found.unwrap_or(&text).to_string())?;
+            figure(bytes, about, line.to_string(), found.unwrap_or(&text).to_string())?;
         }
         Ok(())
+    }
+
+    fn row(&mut self, row: &Row) -> Result<(), Disagreement> {
+        self.lines(&p_with(row.0), "a row", row.1)
+    }
+
+    fn turned(&mut self, (plan, methods): &Turned) -> Result<(), Disagreement> {
+        for (method, lines) in *methods {
+            self.lines(&changed(plan, &[(METHOD, &[*method])]), "a plan of corners", lines)?;
+        }
+        Ok(())
+    }
+
+    /// The product shows of two flows alone whether they share a link.
+    fn corner(&mut self, (one, other, due): &Corner) -> Result<(), Disagreement> {
+        let plan = Plan { platform: mesh(MESH), flows: vec![small_flow(1, *one), small_flow(2, *other)] };
+        let bytes = plan.records().concat();
+        let Analysis { places, .. } = Analysis::new(&plan, Law::WHOLE);
+        let first = |places: &[usize]| places.first().copied().unwrap_or(0);
+        let came = [places[0][1].len(), first(&places[0][1]), first(&places[1][0])];
+        figure(&bytes, "links shared and their places", format!("{due:?}"), format!("{came:?}"))?;
+        self.agree(&bytes).map(|_| ())
     }
 
     /// Read or written, the field is refused where it stands: at its record's start in P and its offset.
@@ -223,20 +249,19 @@ fn short_and_exact(bytes: &[u8]) -> Result<(), Disagreement> {
     Ok(())
 }
 
+fn mesh([columns, rows]: [Number; 2]) -> Platform {
+    Platform { columns, rows, link: 1, routing: 0, buffer: 10, method: 3 }
+}
+
+fn small_flow(id: Number, [source, destination]: [Number; 2]) -> Flow {
+    Flow { id, priority: id, source, destination, flits: 1, period: 400, deadline: 400, jitter: 0 }
+}
+
 /// The wrong turns that can be seen in this program's own routes and windows.
 fn wrong_turns() -> Result<(), Disagreement> {
-    let platform = Platform { columns: 6, rows: 1, link: 1, routing: 0, buffer: 10, method: 3 };
-    let flow = |id, source, destination| Flow {
-        id,
-        priority: id,
-        source,
-        destination,
-        flits: 1,
-        period: 400,
-        deadline: 400,
-        jitter: 0,
-    };
-    let plan = Plan { platform, flows: vec![flow(1, 0, 1), flow(2, 0, 5), flow(3, 1, 2), flow(4, 2, 1)] };
+    let flows = [[0, 1], [0, 5], [1, 2], [2, 1]];
+    let flows = flows.into_iter().zip(1..).map(|(ends, id)| small_flow(id, ends)).collect();
+    let plan = Plan { platform: mesh([6, 1]), flows };
     let analysis = Analysis::new(&plan, Law::WHOLE);
     let shared = |i: usize, j: usize| analysis.places[i][j].len().to_string();
     figure(&[], "0 to 1 and 0 to 5 share", "2".to_string(), shared(0, 1))?;
@@ -252,6 +277,12 @@ pub fn check(program: &str, tally: &mut Tally) -> Result<usize, Disagreement> {
     fixed.plan_p()?;
     for row in ROWS.iter().chain(TICK_ROWS) {
         fixed.row(row)?;
+    }
+    for corner in PAIRS {
+        fixed.corner(corner)?;
+    }
+    for plan in PLANS {
+        fixed.turned(plan)?;
     }
     fixed.fields_outside()?;
     fixed.shorter_plans()?;

@@ -1,6 +1,7 @@
 //! What a run has seen of deadlines that run from the tick: the cases in which a flow's own jitter decides.
 
 use crate::answer::Judged;
+use crate::counts::{Case, Counted};
 use crate::model::{Number, BILLION};
 use crate::rules::Verdict;
 
@@ -45,47 +46,24 @@ impl Judged {
     }
 }
 
-/// Words for a flow, and whether it is one.
-type Case = (&'static str, fn(&Judged) -> bool);
-
-const CASES: [Case; 14] = [
-    ("bounded with a jitter", |flow| flow.is_bounded() && flow.jitter() > 0),
-    ("bounded at the deadline less a jitter", |flow| flow.is_bounded() && flow.bound_passes_by(0)),
-    ("bounded with C at the deadline less a jitter", |flow| flow.is_bounded() && flow.c_passes_by(0)),
-    ("late after rounds, bounded without the jitter", |flow| flow.is_late_by_rounds() && flow.without_jitter.is_some()),
-    ("late after rounds by one cycle of a jitter", |flow| flow.is_late_by_rounds() && flow.bound_passes_by(1)),
-    ("late with C at the deadline less a jitter", |flow| flow.is_late_by_rounds() && flow.c_passes_by(0)),
-    ("late at once by the jitter alone", |flow| flow.is_late_at_once() && flow.latency <= flow.deadline()),
-    ("late at once by one cycle of a jitter", |flow| flow.is_late_at_once() && flow.c_passes_by(1)),
-    ("late at once, bounded without the jitter", |flow| flow.is_late_at_once() && flow.without_jitter.is_some()),
-    ("late with a jitter equal to the deadline", |flow| flow.is_late_at_once() && flow.jitter() == flow.deadline()),
-    ("late with a jitter above the deadline", |flow| flow.is_late_at_once() && flow.jitter() > flow.deadline()),
-    ("late with the largest jitter", |flow| flow.is_late_at_once() && flow.jitter() == BILLION),
-    ("waiting with a jitter equal to the deadline", |flow| flow.waits() && flow.jitter() == flow.deadline()),
-    ("waiting with a jitter above the deadline", |flow| flow.waits() && flow.jitter() > flow.deadline()),
-];
-
-/// How often each case was met.
-#[derive(Default)]
-pub struct Jitters {
-    times: [usize; CASES.len()],
-}
-
-impl Jitters {
-    pub fn count(&mut self, judged: &Judged) {
-        for ((_, is_met), times) in CASES.iter().zip(&mut self.times) {
-            *times += usize::from(is_met(judged));
-        }
-    }
-
-    pub fn print(&self) {
-        for ((words, _), times) in CASES.iter().zip(&self.times) {
-            println!("flows {words}: {times}");
-        }
-    }
-
-    /// The cases, and whether they were met.
-    pub fn cases(&self) -> Vec<(String, bool)> {
-        CASES.iter().zip(&self.times).map(|((words, _), times)| (words.to_string(), *times > 0)).collect()
-    }
+impl Counted for Judged {
+    const KIND: &'static str = "flows";
+    const CASES: &'static [Case<Judged>] = &[
+        ("bounded with a jitter", |flow| flow.is_bounded() && flow.jitter() > 0),
+        ("bounded at the deadline less a jitter", |flow| flow.is_bounded() && flow.bound_passes_by(0)),
+        ("bounded with C at the deadline less a jitter", |flow| flow.is_bounded() && flow.c_passes_by(0)),
+        ("late after rounds, bounded without the jitter", |flow| {
+            flow.is_late_by_rounds() && flow.without_jitter.is_some()
+        }),
+        ("late after rounds by one cycle of a jitter", |flow| flow.is_late_by_rounds() && flow.bound_passes_by(1)),
+        ("late with C at the deadline less a jitter", |flow| flow.is_late_by_rounds() && flow.c_passes_by(0)),
+        ("late at once by the jitter alone", |flow| flow.is_late_at_once() && flow.latency <= flow.deadline()),
+        ("late at once by one cycle of a jitter", |flow| flow.is_late_at_once() && flow.c_passes_by(1)),
+        ("late at once, bounded without the jitter", |flow| flow.is_late_at_once() && flow.without_jitter.is_some()),
+        ("late with a jitter equal to the deadline", |flow| flow.is_late_at_once() && flow.jitter() == flow.deadline()),
+        ("late with a jitter above the deadline", |flow| flow.is_late_at_once() && flow.jitter() > flow.deadline()),
+        ("late with the largest jitter", |flow| flow.is_late_at_once() && flow.jitter() == BILLION),
+        ("waiting with a jitter equal to the deadline", |flow| flow.waits() && flow.jitter() == flow.deadline()),
+        ("waiting with a jitter above the deadline", |flow| flow.waits() && flow.jitter() > flow.deadline()),
+    ];
 }

@@ -1,5 +1,5 @@
-//! The law is document 01 with the fields' refusals of L2 and the deadlines of L3 of document 02, and for writing L1; a
-//! planted fault breaks one rule of it on the expected side, so that a run must fail.
+//! The law is document 01 with the fields' refusals of L2 and the deadlines of L3 of document 02, and for writing L1;
+//! L4 leaves it as it is. A planted fault breaks one rule of it on the expected side, so that a run must fail.
 
 use crate::model::{all_fields, field_refusals, High, Number, FLOW_FIELDS, PLATFORM_FIELDS};
 use crate::reading::{Check, CHECKS};
@@ -94,6 +94,54 @@ rules! {
     RoundsZeroOnlyC "rounds-zero-only-c" "a late flow has no round only if C alone is above the deadline, and else one";
     JitterLateFirst "jitter-late-first" "late comes before waits when the jitter is above the deadline";
     JitterRefused "jitter-refused" "a jitter above the deadline is refused 37";
+
+    [SHARED]
+    RowUndirected "row-undirected" "the two directions along a row are one link";
+    ColumnUndirected "column-undirected" "the two directions along a column are one link";
+    RowBackwardApart "row-backward-apart" "hops towards lower columns are never shared";
+    ColumnBackwardApart "column-backward-apart" "hops towards lower rows are never shared";
+    RowAnywhere "row-anywhere" "hops between the same two columns are shared in whatever row";
+    ColumnAnywhere "column-anywhere" "hops between the same two rows are shared in whatever column";
+    RowOfDestination "row-of-destination" "hops between columns are compared in the destinations' rows";
+    ColumnOfSource "column-of-source" "hops between rows are compared in the sources' columns";
+    InjectionOfRow "injection-of-row" "the sources in one row have one injection link";
+    InjectionOfColumn "injection-of-column" "the sources in one column have one injection link";
+    EjectionOfRow "ejection-of-row" "the destinations in one row have one ejection link";
+    EjectionOfColumn "ejection-of-column" "the destinations in one column have one ejection link";
+    EndsTurn "ends-at-turn" "links behind the turn are not counted where links before it are shared";
+    StartsTurn "starts-at-turn" "links before the turn are not counted where links behind it are shared";
+    InjectionElse "injection-else" "where the injection link is shared no other is counted";
+    InjectionAlone "injection-alone" "the injection link is counted only where no other is shared";
+    RowOneMore "row-one-more" "flows with a common hop in a row share one more";
+    ColumnOneMore "column-one-more" "flows with a common hop in a column share one more";
+    RowOneLess "row-one-less" "flows with common hops in a row share one less";
+    ColumnOneLess "column-one-less" "flows with common hops in a column share one less";
+    RowSameEnds "row-same-ends" "hops along a row are shared only between the same two columns as a whole";
+    ColumnSameEnds "column-same-ends" "hops along a column are shared only between the same two rows as a whole";
+    RowShorter "row-shorter" "flows with a common hop in a row share as many as the one with fewer has";
+    ColumnShorter "column-shorter" "flows with a common hop in a column share as many as the one with fewer has";
+    RowTouching "row-touching" "flows one behind the other in a row share a hop where they meet in a node";
+    ColumnTouching "column-touching" "flows one behind the other in a column share a hop where they meet in a node";
+    RowGap "row-gap" "the hops between flows one behind the other in a row are shared";
+    ColumnGap "column-gap" "the hops between flows one behind the other in a column are shared";
+
+    [PLACE]
+    PlaceOnOther "place-on-other" "first places are counted on the other flow's route";
+    PlaceOnK "place-on-k" "the first place of links shared with k is counted on k's route, not j's";
+    PlaceOnI "place-on-i" "the first place of links shared with i is counted on i's route, not j's";
+    PlaceNoInjection "place-no-injection" "first places are counted from the first hop";
+    PlaceNoRow "place-no-row" "a first place behind the turn is counted without the row hops";
+    PlaceOtherRow "place-other-row" "a first place behind the turn is counted with the other flow's row hops";
+    PlaceTurnLess "place-turn-less" "a first place behind the turn is one too small";
+    PlaceTurnStart "place-turn-start" "a run over the turn is placed at the first hop";
+    PlaceRowStart "place-row-start" "a run that starts in the row is placed at the first hop";
+    PlaceColumnStart "place-column-start" "a run that starts in the column is placed at the first hop behind the turn";
+    PlaceRowSources "place-row-sources" "a run that starts in the row is placed by the sources' distance";
+    PlaceColumnSources "place-column-sources" "a run that starts in the column is placed by the sources' distance";
+    PlaceRowFar "place-row-far" "a run that starts towards lower columns is placed behind its hops in the row";
+    PlaceColumnFar "place-column-far" "a run that starts towards lower rows is placed behind its hops in the column";
+    PlaceEjectionZero "place-ejection-zero" "an ejection link shared alone is placed at 0";
+    PlaceEjectionOther "place-ejection-other" "an ejection link shared alone has its place on the other flow's route";
 
     [TEXT]
     TextMethodAsked "text-method-asked" "the method printed is the one asked for";
@@ -222,6 +270,16 @@ impl Law {
         }
     }
 
+    /// Whether it counts shared links wrongly.
+    pub fn miscounts(&self) -> bool {
+        self.broken().map_or(false, |rule| is_in(SHARED, rule))
+    }
+
+    /// Whether it puts the first of them elsewhere.
+    pub fn misplaces(&self) -> bool {
+        self.broken().map_or(false, |rule| is_in(PLACE, rule))
+    }
+
     pub fn breaks(&self, rule: Rule) -> bool {
         self.planted == Some(Plant::Rule(rule))
     }
@@ -332,7 +390,7 @@ fn rule_plants(rules: &'static [(Rule, &str, &str)]) -> impl Iterator<Item = Nam
 }
 
 fn analysing_plants() -> Vec<Named> {
-    let rules = [ANALYSING, TICK, TEXT, NUMBERING].into_iter().flat_map(rule_plants);
+    let rules = [ANALYSING, TICK, SHARED, PLACE, TEXT, NUMBERING].into_iter().flat_map(rule_plants);
     let orders = (0..CHECKS.len() - 1).map(order_plant).chain(field_order_plants());
     let places = refusals().into_iter().map(|number| {
         (Plant::Place(number), format!("place-{number}"), format!("refusal {number} stands one byte later"))

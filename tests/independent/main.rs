@@ -1,9 +1,11 @@
-//! An independent second witness: document 01 with the requests L1 to L3 of document 02, worked out by other means and
+//! An independent second witness: document 01 with the requests L1 to L4 of document 02, worked out by other means and
 //! compared with the product.
 
 mod answer;
 mod claims;
 mod compare;
+mod corners;
+mod counts;
 mod damage;
 mod disagreement;
 mod edits;
@@ -11,6 +13,7 @@ mod figures;
 mod jitters;
 mod law;
 mod model;
+mod pairs;
 mod plans;
 mod product;
 mod random;

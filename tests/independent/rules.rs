@@ -2,6 +2,7 @@
 
 use crate::law::{Law, Rule};
 use crate::model::{Flow, Number, Plan, Platform};
+use crate::pairs::Pair;
 use crate::routes::{route, shared_places, Link, Places};
 use std::cell::RefCell;
 
@@ -78,9 +79,24 @@ impl<'a> Analysis<'a> {
         }
     }
 
+    pub fn pair(&self, i: usize, j: usize) -> Pair {
+        let first = |one: usize, other: usize| self.places[one][other].first().copied().unwrap_or(0);
+        let shared: Vec<Link> = self.places[i][j].iter().map(|place| self.routes[i][*place]).collect();
+        let flows = [&self.plan.flows[i], &self.plan.flows[j]];
+        Pair::new(&self.plan.platform, flows, &shared, [first(i, j), first(j, i)])
+    }
+
+    /// How many links are shared; only a planted fault takes it from rows and columns.
+    fn count(&self, i: usize, j: usize) -> usize {
+        if self.law.miscounts() {
+            self.pair(i, j).count(self.law)
+        } else {
+            self.places[i][j].len()
+        }
+    }
+
     pub fn is_direct(&self, j: usize, i: usize) -> bool {
-        let shares = !self.places[j][i].is_empty() || self.law.breaks(Rule::DirectWithoutLink);
-        self.is_higher(j, i) && shares
+        self.is_higher(j, i) && (self.count(j, i) > 0 || self.law.breaks(Rule::DirectWithoutLink))
     }
 
     pub fn direct(&self, i: usize) -> Vec<usize> {
@@ -107,11 +123,16 @@ impl<'a> Analysis<'a> {
         self.places[j][k].iter().all(|of_k| self.places[j][i].iter().all(|of_i| of_k > of_i))
     }
 
+    /// First places alone decide only where a planted fault puts them elsewhere.
     fn is_upstream(&self, i: usize, j: usize, k: usize) -> bool {
-        if self.law.breaks(Rule::UpDownSwapped) {
-            self.comes_after(i, j, k)
-        } else {
-            self.comes_before(i, j, k)
+        let place = |one: usize, other: usize| self.pair(one, other).place(self.law);
+        match self.law.broken() {
+            Some(Rule::UpDownSwapped) => self.comes_after(i, j, k),
+            Some(Rule::PlaceOnOther) => place(k, j) < place(i, j),
+            Some(Rule::PlaceOnK) => place(k, j) < place(j, i),
+            Some(Rule::PlaceOnI) => place(j, k) < place(i, j),
+            _ if self.law.misplaces() => place(j, k) < place(j, i),
+            _ => self.comes_before(i, j, k),
         }
     }
 
@@ -206,7 +227,7 @@ impl<'a> Analysis<'a> {
         let factors = [
             (platform.buffer, Rule::BNoFlits),
             (platform.link, Rule::BNoLink),
-            (self.places[j][other].len() as Number, Rule::BNoShared),
+            (self.count(j, other) as Number, Rule::BNoShared),
         ];
         factors.iter().filter(|(_, left_out)| !self.law.breaks(*left_out)).map(|(factor, _)| *factor).product()
     }

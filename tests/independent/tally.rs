@@ -1,9 +1,10 @@
 //! What a run has seen. A test that cannot see a case is no test, so a run of the tests' size demands all of them.
 
 use crate::answer::{Accepted, Expected, Judged};
-use crate::jitters::Jitters;
+use crate::counts::Counts;
 use crate::law::{refusals, refusals_of_writing};
 use crate::model::{is_of_flow, Number};
+use crate::pairs::Pair;
 use crate::product::Returned;
 use crate::reading::start_of;
 use crate::rules::Verdict;
@@ -57,7 +58,8 @@ pub struct Tally {
     waiting: usize,
     at_deadline: usize,
     late_by_rounds: usize,
-    jitters: Jitters,
+    jitters: Counts<Judged>,
+    pairs: Counts<Pair>,
     upstream: usize,
     downstream: usize,
     most_rounds: Number,
@@ -110,6 +112,9 @@ impl Tally {
             self.count_verdict(judged);
             self.jitters.count(judged);
         }
+        for pair in &accepted.pairs {
+            self.pairs.count(pair);
+        }
     }
 
     fn count_verdict(&mut self, Judged { flow, verdict, .. }: &Judged) {
@@ -141,6 +146,7 @@ impl Tally {
         println!("flows late: {}, of them with no round: {at_once}, with more than one: {late}", self.late);
         println!("flows waiting: {}", self.waiting);
         self.jitters.print();
+        self.pairs.print();
         println!("upstream k: {}, downstream k: {}", self.upstream, self.downstream);
         println!("most rounds: {}, of a bounded flow: {}", self.most_rounds, self.most_rounds_bounded);
         println!("mesh sizes: {}, flow counts: {}", self.meshes.len(), self.flow_counts.len());
@@ -176,7 +182,8 @@ impl Tally {
             ("a plan given back by writing what was read", self.given_back > 0),
         ];
         let others = others.iter().map(|(name, seen)| (name.to_string(), *seen));
-        let all = of_plans.into_iter().chain(of_writings).chain(others).chain(self.jitters.cases());
+        let all =
+            of_plans.into_iter().chain(of_writings).chain(others).chain(self.jitters.cases()).chain(self.pairs.cases());
         all.filter(|(_, seen)| !seen).map(|(name, _)| name).collect()
     }
 }
