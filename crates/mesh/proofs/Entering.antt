@@ -10,7 +10,8 @@ use Rattle.mesh.specs.declared.spots.Spot.{Spot}
 use Rattle.mesh.specs.declared.spots.Spots.{Spots}
 use Rattle.mesh.specs.Mesh.{link, injection, ejection}
 use Rattle.mesh.specs.Shared.{Shares}
-use Rattle.mesh.specs.Halves.{OnMesh, LinkShared}
+use Rattle.mesh.specs.Halves.{OnMesh}
+use Rattle.mesh.specs.Stretches.{LinkShared}
 use Rattle.mesh.proofs.Spans.{spot-number, link-span}
 use Rattle.mesh.proofs.Walks.{one-link}
 use Rattle.mesh.proofs.Keeping.{run-shares}

@@ -6,7 +6,7 @@ use native.Mathlib.Omega.{arith}
 use native.Mathlib.Decide.{decLt}
 use Rattle.mesh.specs.Mesh.{straight}
 use Rattle.mesh.specs.Shared.{Shares}
-use Rattle.mesh.specs.Halves.{Stretched, HopsShared}
+use Rattle.mesh.specs.Stretches.{Stretched, HopsShared}
 use Rattle.mesh.proofs.Spans.{line-span, begins}
 use Rattle.mesh.proofs.Walks.{walk}
 use Rattle.mesh.proofs.Keeping.{run-shares}

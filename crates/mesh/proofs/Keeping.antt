@@ -6,7 +6,7 @@ use native.Mathlib.Omega.{arith}
 use native.Mathlib.Decide.{decLt}
 use lib.ListN.{length}
 use Rattle.mesh.specs.Shared.{first-shared, Shares}
-use Rattle.mesh.specs.Halves.{Stretched, Joined}
+use Rattle.mesh.specs.Stretches.{Stretched, Joined}
 use Rattle.mesh.proofs.Spans.{Span, Run, begins, join-span}
 use Rattle.mesh.proofs.Counts.{run-count, run-first, run-counted, run-inside}
 

@@ -10,8 +10,16 @@ use Rattle.mesh.specs.declared.spots.Spots.{Spots}
 use Rattle.mesh.specs.Mesh.{link, injection, ejection, hops, along, along-row, along-column, straight}
 use Rattle.mesh.specs.Halves.{OnMesh, between, to-turn, from-turn}
 use Rattle.mesh.proofs.Places.{length-hops, length-along, in-halves, length-to-turn}
-use Rattle.mesh.proofs.Spans.{Span, Run, rise, fall, walk-span, spot-number, link-span, row-span, column-span, to-span, from-span, route-span}
+use Rattle.mesh.proofs.Spans.{Run, rise, fall, walk-span, spot-number, link-span, row-span, column-span, to-span, from-span, route-span}
 use Rattle.mesh.proofs.Runs.{Within, Stretch, meeting, line, join}
+
+-- What follows from links in the one part and from links in the other follows from links in both together.
+in-either : {P : Type 0} (x y : ℕ) → (0 < x → P) → (0 < y → P) → 0 < x + y → P
+in-either {P} x y one other h = go (decLt 0 x)
+  where
+    go : Dec (0 < x) → P
+    go (yes l) = one l
+    go (no l) = other (omega arith)
 
 -- Walks from `u` to `v` on the line `g` and from `u′` to `v′` on the line `g′`, by links of `kind` or of the kind after it.
 module _ (kind g u v g′ u′ v′ : ℕ) (small : (g < 8) × (u < 8) × (v < 8) × (g′ < 8) × (u′ < 8) × (v′ < 8)) where
@@ -23,11 +31,7 @@ module _ (kind g u v g′ u′ v′ : ℕ) (small : (g < 8) × (u < 8) × (v < 8
 
   -- Links are shared on one line only.
   one-line : 0 < walk-span g u v g′ u′ v′ .count → g ≡ g′
-  one-line h = go (decLt 0 (rise g u v g′ u′ v′ .count))
-    where
-      go : Dec (0 < rise g u v g′ u′ v′ .count) → g ≡ g′
-      go (yes r) = rises r .2
-      go (no r) = falls (omega arith) .2
+  one-line = in-either _ _ (λ r. rises r .2) (λ r. falls r .2)
 
   -- Walks that meet before and after the farther end meet there.
   far-end : (8 * g + u ≡ 8 * g′ + u′) ⊎ ((u < v) × (u′ < v′) × (g ≡ g′))
@@ -74,9 +78,6 @@ module _ (kind : ℕ) (s t : Spot) (small : (s .row < 8) × (s .column < 8) × (
   one-link =
       line (kind * 64) (kind * 64 + 64) (λ k. link kind (s .row) (s .column)) (λ k. link kind (t .row) (t .column)) 1 (spot-number s) 1 (spot-number t)
       (λ k h. omega arith) (λ k h. omega arith) (λ k k′ h h′. omega arith) (omega arith) (omega arith) (omega arith)
-
-some-behind : (x y : ℕ) → (0 < x → ⊥) → 0 < x + y → 0 < y
-some-behind x y none h = omega arith
 
 -- Injection, row, column, ejection: at each seam, routes that meet before and after it meet at it.
 module _ (a b : Spots) (on-a : OnMesh a) (on-b : OnMesh b) where
@@ -126,26 +127,14 @@ module _ (a b : Spots) (on-a : OnMesh a) (on-b : OnMesh b) where
   -- Routes that share a link before the turn are in one row; those that share one behind it go to one column.
   pub same-row : Source ⊎ (0 < to-span a b .count) → a .source .row ≡ b .source .row
   same-row (inl s) = omega arith
-  same-row (inr h) = go (decLt 0 (link-span (a .source) (b .source) .count))
-    where
-      go : Dec (0 < link-span (a .source) (b .source) .count) → a .source .row ≡ b .source .row
-      go (yes e) = omega (arith, one-node 0 (a .source) (b .source) sources e)
-      go (no e) = one-line 1 _ _ _ _ _ _ on-rows (omega arith)
+  same-row (inr h) = in-either _ _ (λ e. omega (arith, one-node 0 (a .source) (b .source) sources e)) (one-line 1 _ _ _ _ _ _ on-rows) h
 
   pub same-column : Target ⊎ (0 < from-span a b .count) → a .destination .column ≡ b .destination .column
   same-column (inl e) = omega arith
-  same-column (inr h) = go (decLt 0 (link-span (a .destination) (b .destination) .count))
-    where
-      go : Dec (0 < link-span (a .destination) (b .destination) .count) → a .destination .column ≡ b .destination .column
-      go (yes e) = omega (arith, one-node 5 (a .destination) (b .destination) targets e)
-      go (no e) = one-line 3 _ _ _ _ _ _ on-columns (omega arith)
+  same-column (inr h) = in-either _ _ (one-line 3 _ _ _ _ _ _ on-columns) (λ e. omega (arith, one-node 5 (a .destination) (b .destination) targets e)) h
 
   pub cannot-meet : (a .source .row ≡ b .source .row → ⊥) → (a .destination .column ≡ b .destination .column → ⊥) → 0 < route-span a b .count → ⊥
-  cannot-meet rows columns h = go (decLt 0 (to-span a b .count))
-    where
-      go : Dec (0 < to-span a b .count) → ⊥
-      go (yes l) = rows (same-row (inr l))
-      go (no l) = columns (same-column (inr (some-behind (to-span a b .count) (from-span a b .count) l h)))
+  cannot-meet rows columns = in-either _ _ (λ h. rows (same-row (inr h))) (λ h. columns (same-column (inr h)))
 
   routes : Stretch 0 384 Source Target (to-turn a ++ from-turn a) (to-turn b ++ from-turn b) (route-span a b)
   routes =

@@ -1,12 +1,9 @@
--- A route in two halves, up to its turn and from there on, by the rows and columns of its ends; and what is said of a part of two routes.
-use Prim.Native.Nat.{ℕ, _+_, _/_, _%_, _≤_, _<_}
-use mathlib.Core.Path.{_≡_}
-use mathlib.Core.Bool.{Bool, cond}
+-- A route by the rows and columns of its ends, and in two halves: up to its turn and from there on.
+use Prim.Native.Nat.{ℕ, _/_, _%_, _<_}
 use mathlib.Core.List.{List, [], _∷_, _++_}
 use Rattle.mesh.specs.declared.spots.Spot.{Spot}
 use Rattle.mesh.specs.declared.spots.Spots.{Spots}
-use Rattle.mesh.specs.Mesh.{injection, ejection, along-row, along-column, straight, xy}
-use Rattle.mesh.specs.Shared.{Shares}
+use Rattle.mesh.specs.Mesh.{injection, ejection, along-row, along-column, xy}
 
 -- "Node number = row x columns + column": where a node stands.
 abbrev pub spotOf : ℕ → ℕ → Spot
@@ -31,27 +28,3 @@ to-turn a = (injection (a .source .row) (a .source .column) ∷ []) ++ along-row
 -- ".. then hops along that column, then the destination's ejection link."
 abbrev pub from-turn : Spots → List ℕ
 from-turn a = along-column (a .destination .column) (a .source .row) (a .destination .row) ++ (ejection (a .destination .row) (a .destination .column) ∷ [])
-
--- A run of `n` links from place `f` on; "the place is 0 where none is shared".
-pub record Stretched (n f count first : ℕ) : Type 0 where
-  pub many : count ≡ n
-  pub some : 0 < n → first ≡ f
-  pub none : n ≡ 0 → first ≡ 0
-
--- What hops from `u` to `v` share with hops from `s` to `t`, on whatever line.
-pub record HopsShared (u v s t count first : ℕ) : Type 0 where
-  pub small : (count < 8) × (first < 8)
-  pub on-line : (kind line : ℕ) → line < 8 → Shares (straight kind line u v) (straight kind line s t) count first
-
--- What a link shares with another.
-pub record LinkShared (same : Bool) (count first : ℕ) : Type 0 where
-  pub few : count ≤ 1
-  pub many : count ≡ cond same 1 0
-  pub place : first ≡ 0
-
--- What two parts share of which each has a second behind its first, the first route's first part of `m` links: `n` and `f` of the first parts, `n′` and `f′` of the second.
-pub record Joined (m n f n′ f′ count first : ℕ) : Type 0 where
-  pub many : count ≡ n + n′
-  pub early : 0 < n → first ≡ f
-  pub late : n ≡ 0 → 0 < n′ → first ≡ m + f′
-  pub none : n ≡ 0 → n′ ≡ 0 → first ≡ 0

@@ -2,4 +2,5 @@
 pub mod Mesh
 pub mod Shared
 pub mod Halves
+pub mod Stretches
 pub mod Examples

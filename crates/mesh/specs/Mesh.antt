@@ -1,7 +1,6 @@
 -- Nodes, links and routes of one rectangular mesh (document 01, "Routes and shared links").
 use Prim.Native.Nat.{ℕ, zero, suc, _+_, _-_, _*_, _/_, _%_, _≤_, _<_}
 use mathlib.Core.List.{List, [], _∷_, _++_}
-use mathlib.Core.Path.{_≡_}
 
 -- "columns (1): 1..8; rows (1): 1..8 .. source (1) and destination (1): below columns x rows": `n` is a node of a mesh with so many columns.
 pub record Node (columns n : ℕ) : Type 0 where

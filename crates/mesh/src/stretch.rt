@@ -1,9 +1,8 @@
 // What two routes share of one stretch of their links, and of two stretches, one behind the other.
 ghost use mathlib.Core.Path.{_≡_};
-ghost use mathlib.Core.Bool.{true, false};
 ghost use Prim.Native.Nat.{_+_, _-_, _<_, _≤_, min, max};
 ghost use Rattle.mesh.specs.Mesh.{distance as apart};
-ghost use Rattle.mesh.specs.Halves.{Stretched, HopsShared, LinkShared, Joined};
+ghost use Rattle.mesh.specs.Stretches.{Stretched, HopsShared, LinkShared, Joined};
 use crate::shared::Pair;
 
 fn lower(u: u8, v: u8) -> u8
@@ -57,6 +56,7 @@ pub(crate) fn shared_hops(u: u8, v: u8, s: u8, t: u8) -> Pair
     requires { ⌜ (u < 8) × (v < 8) × (s < 8) × (t < 8) ⌝ }
     ensures { λ r. ⌜ HopsShared u v s t (r .count) (r .first) ⌝ }
 {
+    // To higher places: from the later start to the earlier end.
     if u < v {
         hops_between(higher(u, s), lower(v, t), above(s, u))
     } else {

@@ -5,20 +5,21 @@ use lib.ListN.{getD}
 use Rattle.plan.specs.declared.Platform.{Platform}
 use Rattle.plan.specs.declared.Flow.{Flow}
 use Rattle.plan.specs.Padded.{padded}
-use Rattle.mesh.specs.declared.spots.Spot.{Spot}
 use Rattle.mesh.specs.declared.spots.Spots.{Spots}
 use Rattle.mesh.specs.declared.shared.Pair.{Pair}
 use Rattle.mesh.specs.Shared.{shared-count, first-shared}
 use Rattle.mesh.specs.Halves.{spotsOf, OnMesh, between}
 use Rattle.pairs.specs.Pairs.{noPair}
 
+-- Those of a plan's flow.
 abbrev pub spotsIn : Platform → Flow → Spots
 spotsIn p f = spotsOf (p .columns) (f .source) (f .destination)
 
--- What stands behind the flows of a plan.
+-- What stands behind the plan's.
 abbrev pub noSpots : Spots
 noSpots = record { source = record { row = 0; column = 0 }; destination = record { row = 0; column = 0 } }
 
+-- All of them stand on the mesh.
 pub record AllOnMesh (spots : List Spots) (count : ℕ) : Type 0 where
   pub few : count ≤ 64
   pub each : (k : ℕ) → k < count → OnMesh (getD spots k noSpots)
