@@ -45,7 +45,7 @@ pub ends-on-mesh : {columns s d : ℕ} → Ends columns s d → OnMesh (spotsOf 
 ends-on-mesh e =
     let a = node-small (e .from) in
     let b = node-small (e .to) in
-    record { rows = (a .0, b .0); columns = (a .1, b .1) }
+    record { rows = omega arith; columns = omega arith }
 
 -- Links are numbered one to one: equal numbers are of one kind, one line and one place.
 pub links-differ : (kind line place kind′ line′ place′ : ℕ) → (line < 8) × (place < 8) × (line′ < 8) × (place′ < 8)
