@@ -133,6 +133,7 @@ module _ (a b : Spots) (on-a : OnMesh a) (on-b : OnMesh b) where
   same-column (inl e) = omega arith
   same-column (inr h) = in-either _ _ (one-line 3 _ _ _ _ _ _ on-columns) (λ e. omega (arith, one-node 5 (a .destination) (b .destination) targets e)) h
 
+  -- So two with neither a row nor a column together share none.
   pub cannot-meet : (a .source .row ≡ b .source .row → ⊥) → (a .destination .column ≡ b .destination .column → ⊥) → 0 < route-span a b .count → ⊥
   cannot-meet rows columns = in-either _ _ (λ h. rows (same-row (inr h))) (λ h. columns (same-column (inr h)))
 

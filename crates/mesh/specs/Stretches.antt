@@ -16,13 +16,13 @@ pub record HopsShared (u v s t count first : ℕ) : Type 0 where
   pub small : (count < 8) × (first < 8)
   pub on-line : (kind line : ℕ) → line < 8 → Shares (straight kind line u v) (straight kind line s t) count first
 
--- What a link shares with another.
+-- What one link shares with one other, which may be the same.
 pub record LinkShared (same : Bool) (count first : ℕ) : Type 0 where
   pub few : count ≤ 1
   pub many : count ≡ cond same 1 0
   pub place : first ≡ 0
 
--- What two parts share of which each has a second behind its first, the first route's first part of `m` links: `n` and `f` of the first parts, `n′` and `f′` of the second.
+-- Two stretches, one behind the other: `n` links are shared in the first from place `f` on, `n′` in the second from `f′` on, and the first has `m` links on the first route.
 pub record Joined (m n f n′ f′ count first : ℕ) : Type 0 where
   pub many : count ≡ n + n′
   pub early : 0 < n → first ≡ f
