@@ -7,10 +7,10 @@ use native.Mathlib.Omega.{arith}
 use lib.ListN.{length, drop, getD}
 use lib.Seq.{getD-drop, ext-getD}
 use Rattle.framing.specs.Header.{Headed}
-use Rattle.framing.specs.Numbers.{oneAt, twoAt, fourAt, Bytes}
+use Rattle.framing_numbers.specs.Numbers.{oneAt, twoAt, fourAt, Bytes}
 use Rattle.framing.specs.BigEndian.{twoBytes, fourBytes}
 use Rattle.framing.specs.Each.{each}
-use Rattle.plan.specs.declared.Flow.{Flow}
+use Rattle.plan_values.specs.declared.Flow.{Flow}
 use Rattle.model.specs.declared.Verdict.{Verdict}
 use Rattle.model.specs.declared.Answer.{Answer}
 use Rattle.model.specs.Verdicts.{verdictNumber, namedFlow, boundIn, roundsIn}

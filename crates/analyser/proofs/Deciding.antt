@@ -6,8 +6,8 @@ use native.Mathlib.Omega.{arith}
 use lib.ListN.{length, drop, getD, length-append, length-drop, length-map}
 use lib.Seq.{drop-at}
 use Rattle.framing.specs.Returned.{refusedWith, acceptedWith}
-use Rattle.plan.specs.declared.Platform.{Platform}
-use Rattle.plan.specs.declared.Flow.{Flow}
+use Rattle.plan_values.specs.declared.Platform.{Platform}
+use Rattle.plan_values.specs.declared.Flow.{Flow}
 use Rattle.plan.specs.Legal.{LegalFlow, Legal, flow}
 use Rattle.plan.specs.Reading.{accepted, refused, readPlan}
 use Rattle.plan.proofs.Exact.{legal}

@@ -11,11 +11,11 @@ use native.Mathlib.Decide.{decLt}
 use native.Mathlib.Omega.{arith}
 use lib.ListN.{length, take, drop}
 use Rattle.framing.specs.Header.{Headed}
-use Rattle.framing.specs.Numbers.{Bytes}
+use Rattle.framing_numbers.specs.Numbers.{Bytes}
 use Rattle.framing.specs.Returned.{refusedWith, acceptedWith}
 use Rattle.framing.specs.declared.returned.Returned.{Returned}
-use Rattle.plan.specs.declared.Platform.{Platform}
-use Rattle.plan.specs.declared.Flow.{Flow}
+use Rattle.plan_values.specs.declared.Platform.{Platform}
+use Rattle.plan_values.specs.declared.Flow.{Flow}
 use Rattle.plan.specs.declared.Reading.{Reading}
 use Rattle.plan.specs.Legal.{Legal, flow}
 use Rattle.plan.specs.Layout.{Laid}

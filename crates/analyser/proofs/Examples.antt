@@ -6,13 +6,14 @@ use mathlib.Core.Logic.{_≢_}
 use mathlib.Core.List.{List, [], _∷_, _++_, map}
 use native.Mathlib.Omega.{arith}
 use lib.ListN.{take, getD, set, replicate}
-use Rattle.framing.specs.Numbers.{oneAt}
+use Rattle.framing_numbers.specs.Numbers.{oneAt}
 use Rattle.framing.specs.First.{_when_else_}
 use Rattle.framing.specs.Each.{each}
-use Rattle.framing.specs.Returned.{refusedWith, acceptedWith, roomFor, putInto}
+use Rattle.framing.specs.Returned.{refusedWith, acceptedWith, roomFor, putInto, returnedBy, leftBy}
 use Rattle.framing.specs.declared.returned.Returned.{Returned}
-use Rattle.plan.specs.Table.{tagOf}
-use Rattle.plan.specs.Checks.{headerAt, taggedAt, frameAt, fieldsFrom, clashAt, tailAt, restAt, _then_, bodyAt, recordAt}
+use Rattle.plan_table.specs.Table.{tagOf}
+use Rattle.plan_checks.specs.Checks.{headerAt, taggedAt, frameAt, clashAt, tailAt, restAt}
+use Rattle.plan.specs.Records.{fieldsFrom, _then_, bodyAt, recordAt}
 use Rattle.plan.specs.Reading.{accepted, refused, after, records, readPlan}
 use Rattle.plan.specs.PlanP.{P}
 use Rattle.mesh.specs.Mesh.{hops, along, xy}
@@ -25,7 +26,7 @@ use Rattle.model.specs.Interference.{directFor, indirectFor, comesBefore, those
 use Rattle.model.specs.Delays.{allowance, weight, term, terms}
 use Rattle.model.specs.Verdicts.{highest, judged, judge, verdictBelow, verdict, answers}
 use Rattle.reply.specs.Reply.{recordOf}
-use Rattle.analyser.specs.Analysed.{returnedBy, leftBy, returned, left}
+use Rattle.analyser.specs.Analysed.{returned, left}
 use Rattle.analyser.specs.Records.{idAt, verdictAt, boundAt, roundsAt}
 use Rattle.analyser.proofs.Demands.{Offered, promised-exactly}
 

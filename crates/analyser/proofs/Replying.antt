@@ -1,19 +1,19 @@
--- `analyse` returns and leaves what is defined, by what was read: a refusedWith, a plan whose reply does not fit, or one whose reply does.
+-- `analyse` returns and leaves what is defined, by what was read: a refusal, a plan whose reply does not fit, or one whose reply does.
 use Prim.Native.Nat.{ℕ, _≤_, _<_}
 use mathlib.Core.Path.{_≡_, refl, ap, _∙_}
 use mathlib.Core.List.{List, _++_}
 use lib.ListN.{length, take, drop}
 use Rattle.framing.specs.Returned.{refusedWith, acceptedWith}
 use Rattle.framing.specs.declared.returned.Returned.{Returned}
-use Rattle.framing.proofs.Rooms.{too-short, room-enough}
-use Rattle.plan.specs.declared.Outcome.the-variants.{Accepted, Refused}
+use Rattle.framing.proofs.Rooms.{handed-on, too-short, room-enough}
+use Rattle.framing.specs.declared.returned.Outcome.the-variants.{Accepted, Refused}
 use Rattle.plan.specs.declared.Reading.{Reading}
 use Rattle.plan.specs.Reading.{readPlan}
 use Rattle.model.specs.declared.Answer.{Answer}
-use Rattle.engine.specs.Answers.{answerArray}
+use Rattle.model.specs.Answers.{answerArray}
 use Rattle.engine.proofs.Accepted.{reading-scene, first-answers}
 use Rattle.reply.specs.Reply.{replyBytes}
-use Rattle.analyser.specs.Analysed.{needs, replyTo, returnedBy, leftBy, returned, left}
+use Rattle.analyser.specs.Analysed.{needs, replyTo, returned, left}
 
 -- What the contract says of the result and of the bytes left in the buffer.
 abbrev pub Replied : List ℕ → List ℕ → Returned → List ℕ → Type 0
@@ -21,17 +21,14 @@ Replied bytes held r is = (r ≡ returned bytes (length held)) × (is ≡ left b
 
 module _ (bytes held : List ℕ) {r : Reading} (e : r ≡ readPlan bytes) where
   pub replied-refused : {number place : ℕ} → r .outcome ≡ Refused number place → Replied bytes held (refusedWith number place) held
-  unfolding returnedBy leftBy
-  replied-refused o = rw (← e, o) (refl, refl)
+  replied-refused o = rw (← e) (handed-on (needs (r .plan)) (replyTo (r .plan)) held o)
 
   module _ (o : r .outcome ≡ Accepted) where
     pub replied-short : length held < needs (r .plan) → Replied bytes held (refusedWith 11 0) held
-    unfolding returnedBy leftBy
-    replied-short h = rw (← e, o) (too-short (needs (r .plan)) (replyTo (r .plan)) held h)
+    replied-short h = rw (← e) (too-short (needs (r .plan)) (replyTo (r .plan)) held o h)
 
     pub replied-analysed : needs (r .plan) ≤ length held → Replied bytes held (acceptedWith (needs (r .plan))) (replyTo (r .plan) ++ drop (needs (r .plan)) held)
-    unfolding returnedBy leftBy
-    replied-analysed h = rw (← e, o) (room-enough (needs (r .plan)) (replyTo (r .plan)) held h)
+    replied-analysed h = rw (← e) (room-enough (needs (r .plan)) (replyTo (r .plan)) held o h)
 
     pub replied-written :
         needs (r .plan) ≤ length held → {list : List Answer} {is : List ℕ} →

@@ -4,8 +4,8 @@ use mathlib.Core.Path.{_≡_}
 use mathlib.Core.List.{List, map}
 use lib.ListN.{length, drop}
 use Rattle.framing.specs.Header.{Headed}
-use Rattle.framing.specs.Numbers.{oneAt, twoAt, fourAt}
-use Rattle.plan.specs.declared.Flow.{Flow}
+use Rattle.framing_numbers.specs.Numbers.{oneAt, twoAt, fourAt}
+use Rattle.plan_values.specs.declared.Flow.{Flow}
 use Rattle.plan.specs.Legal.{flow}
 use Rattle.model.specs.declared.Verdict.{Verdict}
 use Rattle.model.specs.declared.Answer.{Answer}

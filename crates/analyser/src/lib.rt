@@ -3,8 +3,8 @@ ghost use mathlib.Core.Path.{_≡_};
 ghost use lib.ListN.{length};
 ghost use Rattle.analyser.specs.Analysed.{returned, left};
 use engine::analyse_plan;
+use framing::returned::Outcome;
 use framing::returned::Returned;
-use plan::Outcome;
 use plan::read;
 use reply::put_reply;
 

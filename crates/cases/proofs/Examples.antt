@@ -5,11 +5,12 @@ use mathlib.Core.Path.{_≡_, refl}
 use mathlib.Core.List.{List, [], _∷_, _++_}
 use lib.ListN.{length, take}
 use Rattle.framing.specs.First.{_when_else_}
-use Rattle.plan.specs.Table.{tagOf}
-use Rattle.plan.specs.Checks.{headerAt, taggedAt, frameAt, fieldsFrom, clashAt, tailAt, restAt, _then_, bodyAt, recordAt}
+use Rattle.plan_table.specs.Table.{tagOf}
+use Rattle.plan_checks.specs.Checks.{headerAt, taggedAt, frameAt, clashAt, tailAt, restAt}
+use Rattle.plan.specs.Records.{fieldsFrom, _then_, bodyAt, recordAt}
 use Rattle.plan.specs.Reading.{accepted, refused, after, records, readPlan}
 use Rattle.plan.specs.PlanP.{P}
-use Rattle.plan.specs.declared.Outcome.the-variants.{Accepted, Refused}
+use Rattle.framing.specs.declared.returned.Outcome.the-variants.{Accepted, Refused}
 
 -- n flows from node 0 to node 1, with ids 0, 1, .. and priorities 1, 2, ..
 flows : ℕ → List ℕ → List ℕ

@@ -1,16 +1,16 @@
 // Reads the plans of data/plans one after the other and prints a line for each: the outcome's number and place, what an
 // accepted plan holds, and the answers to its flows. A plan stands there behind its length in two bytes.
-use engine::Answers;
 use engine::analyse_plan;
-use framing::numbers::two_at;
+use framing::returned::Outcome;
+use framing_numbers::two_at;
 use libc::STDOUT_FILENO;
 use model::Answer;
+use model::Answers;
 use model::Verdict;
-use plan::Flow;
-use plan::Flows;
-use plan::Outcome;
 use plan::Plan;
-use plan::Platform;
+use plan_values::Flow;
+use plan_values::Flows;
+use plan_values::Platform;
 
 fn put(n: u64) {
     io::print_decimal(STDOUT_FILENO, n);

@@ -5,20 +5,20 @@ use mathlib.Core.Path.{_≡_, refl, sym, ap, subst, _∙_}
 use mathlib.Core.List.{List, map}
 use lib.ListN.{length, take, length-map}
 use lib.Seq.{take-at, length-take-le}
-use Rattle.plan.specs.declared.Platform.{Platform}
-use Rattle.plan.specs.declared.Flow.{Flow}
+use Rattle.plan_values.specs.declared.Platform.{Platform}
+use Rattle.plan_values.specs.declared.Flow.{Flow}
 use Rattle.plan.specs.declared.Plan.{Plan}
 use Rattle.plan.specs.declared.Reading.{Reading}
-use Rattle.plan.specs.declared.Outcome.the-variants.{Accepted}
+use Rattle.framing.specs.declared.returned.Outcome.the-variants.{Accepted}
 use Rattle.plan.specs.Padded.{padded}
-use Rattle.plan.specs.Values.{blankFlow}
+use Rattle.plan_values.specs.Values.{blankFlow}
 use Rattle.plan.specs.Reading.{accepted, readPlan}
 use Rattle.plan.proofs.Padding.{length-padded}
 use Rattle.plan.proofs.Exact.{accepted-plan, legal}
 use Rattle.model.specs.declared.Answer.{Answer}
 use Rattle.model.specs.Verdicts.{answerTo, answers}
 use Rattle.pairs.specs.Scene.{Scene}
-use Rattle.engine.specs.Answers.{answerArray}
+use Rattle.model.specs.Answers.{answerArray}
 
 pub plan-flows : (fs : List Flow) → take (length fs) (padded blankFlow fs) ≡ fs
 plan-flows fs = take-at fs _ (length fs) refl

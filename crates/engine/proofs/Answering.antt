@@ -1,7 +1,10 @@
 -- The loop of `analyse_plan`: the flows up to a priority are answered.
-use Prim.Native.Nat.{ℕ, _+_, _-_, _≤_, _<_}
+use Prim.Native.Nat.{ℕ, _+_, _-_, _*_, _≤_, _<_}
 use native.Mathlib.Omega.{arith}
 use native.Mathlib.Decide.{decLt, ℕ-discrete}
+use native.Mathlib.Nat.{mul-le-mul}
+use mir.Syntax.{w64}
+use mir.Val.{Fits}
 use mathlib.Core.Path.{_≡_, refl, sym, ap, _∙_}
 use mathlib.Core.Bool.{Bool, true, false, cond}
 use mathlib.Core.List.{List, [], map}
@@ -9,12 +12,12 @@ use lib.Dec.{ltb}
 use lib.ListN.{length, getD, take, set, replicate, length-set, length-map, getD-replicate}
 use lib.Seq.{ext-getD, getD-set-same, getD-set-other}
 use borrow.Author.Tests.{lt-ltb, ltb-true}
-use Rattle.plan.specs.declared.Platform.{Platform}
-use Rattle.plan.specs.declared.Flow.{Flow}
+use Rattle.plan_values.specs.declared.Platform.{Platform}
+use Rattle.plan_values.specs.declared.Flow.{Flow}
 use Rattle.plan.specs.Legal.{LegalPlatform, LegalFlow, flow}
 use Rattle.plan.proofs.Padding.{length-padded, padded-behind}
 use Rattle.recurrence.specs.Rounding.{up}
-use Rattle.mesh.specs.declared.shared.Pair.{Pair}
+use Rattle.mesh.specs.declared.Pair.{Pair}
 use Rattle.model.specs.declared.Method.{Method}
 use Rattle.model.specs.declared.Method.the-variants.{SB, XLWX, IBN}
 use Rattle.model.specs.declared.Verdict.{Verdict}
@@ -32,19 +35,19 @@ use Rattle.model.proofs.Fits.{limit-period}
 use Rattle.pairs.specs.Pairs.{pairTable}
 use Rattle.pairs.specs.Scene.{Scene, HasRow}
 use Rattle.pairs.proofs.Cells.{filled-cell}
-use Rattle.engine.specs.declared.rows.Row.{Row}
-use Rattle.engine.specs.declared.terms.Way.{Way}
-use Rattle.engine.specs.Filled.{Filled}
-use Rattle.engine.specs.Figures.{end-at, last-at, figuresOf}
-use Rattle.engine.specs.Loads.{lookedAt, wayOf}
-use Rattle.engine.specs.Places.{Listed, Dealt}
-use Rattle.engine.specs.Rows.{Rowed}
-use Rattle.engine.specs.Search.{Highest}
-use Rattle.engine.specs.Answers.{blankAnswer, answerArray}
+use Rattle.engine_rows.specs.declared.rows.Row.{Row}
+use Rattle.engine_terms.specs.declared.terms.Way.{Way}
+use Rattle.engine_rows.specs.Filled.{Filled}
+use Rattle.engine_costs.specs.Figures.{end-at, last-at, figuresOf}
+use Rattle.engine_terms.specs.Loads.{lookedAt, wayOf}
+use Rattle.engine_rows.specs.Places.{Listed, Dealt}
+use Rattle.engine_rows.specs.Rows.{Rowed}
+use Rattle.engine_rows.specs.Search.{Highest}
+use Rattle.model.specs.Answers.{blankAnswer, answerArray}
 use Rattle.engine.specs.Working.{boundFor, hitsOn, Below, FirstsAre, FiguresAre, Known}
-use Rattle.engine.proofs.Scenes.{zeros, scene-long, scene-at, scene-read, scene-flow, scene-legal, own-length, row-read}
-use Rattle.engine.proofs.Placing.{set-cell}
-use Rattle.engine.proofs.Places.{listed-inside, listed-long, listed-same, dealt-cell}
+use Rattle.engine_rows.proofs.Scenes.{zeros, scene-long, scene-at, scene-read, scene-flow, scene-legal, own-length, row-read}
+use Rattle.engine_rows.proofs.Placing.{set-cell}
+use Rattle.engine_rows.proofs.Places.{listed-inside, listed-long, listed-same, dealt-cell}
 use Rattle.engine.proofs.Turns.{Turned}
 
 abbrev AnswerIs : Platform → List Flow → ℕ → ℕ → Answer → Type 0
@@ -62,6 +65,15 @@ pub record Answering (p : Platform) (flows : List Flow) (count : ℕ) (table : L
   pub blank : (k : ℕ) → count ≤ k → k < 64 → getD list k blankAnswer ≡ blankAnswer
   pub answer : Below flows count (last + 1) (AnswerIs p flows count) blankAnswer list
   pub known : Known p flows count (last + 1) lists firsts hits figures
+
+-- a flow's place, and the offset of its cell in an array
+pub under : {i : ℕ} → i ≤ 64 → (i ≡ 64 → ⊥) → i < 64
+under h n = omega arith
+
+pub offset-fits : {i : ℕ} → i ≤ 64 → (size : ℕ) → size ≤ 320 → Fits w64 (i * size)
+offset-fits {i} h size l =
+    let most : i * size ≤ 64 * 320 = mul-le-mul h l in
+    record { fits = omega arith }
 
 -- nothing has the priority 0
 nothing-below : {A : Type 0} {p : Platform} {flows : List Flow} {count : ℕ} → Scene p flows count → (P : ℕ → A → Type 0) (blank : A) (cells : List A) → Below flows count (0 + 1) P blank cells
@@ -94,7 +106,7 @@ module _ {p : Platform} {flows : List Flow} {count : ℕ} {table : List (List Pa
     -- ---- a flow is left
     module _ (left : i ≡ 64 → ⊥) where
       pub low : i < 64
-      low = omega (arith, next .0)
+      low = under (next .0) left
 
       inside : i < count
       inside = next .1 .found low .0

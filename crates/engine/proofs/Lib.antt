@@ -1,12 +1,3 @@
-mod Sums
-mod Scenes
-mod Placing
-mod Places
-mod Costs
-mod Thirds
-mod Searching
-mod Methods
-mod Holding
 mod Pairings
 mod Turns
 mod Answering

@@ -6,8 +6,8 @@ use mathlib.Core.Bool.{Bool, true, false, cond, not, _&&_}
 use mathlib.Core.List.{List}
 use lib.Dec.{ltb}
 use lib.ListN.{take}
-use Rattle.plan.specs.declared.Platform.{Platform}
-use Rattle.plan.specs.declared.Flow.{Flow}
+use Rattle.plan_values.specs.declared.Platform.{Platform}
+use Rattle.plan_values.specs.declared.Flow.{Flow}
 use Rattle.plan.specs.Legal.{flow}
 use Rattle.recurrence.specs.Columns.{held}
 use Rattle.recurrence.specs.Sums.{sumOver}
@@ -21,11 +21,11 @@ use Rattle.model.specs.declared.Method.the-variants.{SB, XLWX, IBN}
 use Rattle.model.proofs.Sides.{indirect-by-count}
 use Rattle.model.proofs.Fits.{latency-small, latency-within, upstream-within, downstream-within}
 use Rattle.pairs.specs.Scene.{Scene}
-use Rattle.engine.specs.Filled.{Filled}
-use Rattle.engine.specs.Figures.{cost-at}
-use Rattle.engine.specs.Loads.{sumTo, upPart, downPart, upLoad, downLoad, capBy, lookedAt, termBy}
-use Rattle.engine.proofs.Scenes.{scene-long, scene-at, scene-flow}
-use Rattle.engine.proofs.Sums.{sum-same, sum-those}
+use Rattle.engine_rows.specs.Filled.{Filled}
+use Rattle.engine_costs.specs.Figures.{cost-at}
+use Rattle.engine_terms.specs.Loads.{sumTo, upPart, downPart, upLoad, downLoad, capBy, lookedAt, termBy}
+use Rattle.engine_rows.proofs.Scenes.{scene-long, scene-at, scene-flow}
+use Rattle.engine_terms.proofs.Sums.{sum-same, sum-those}
 
 -- a part that is counted only where k is direct for j
 counted : (d e x y : Bool) (h c c′ : ℕ) → (d ≡ true → e ≡ x) → (d ≡ true → c ≡ c′) → cond (not x && y) (cond d h 0 * c) 0 ≡ cond ((d && not e) && y) (h * c′) 0

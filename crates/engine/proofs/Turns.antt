@@ -7,8 +7,8 @@ use mathlib.Core.List.{List, [], map, map-map}
 use lib.Dec.{eqb}
 use lib.ListN.{getD, take}
 use borrow.Author.Tests.{eqb-true, eq-eqb}
-use Rattle.plan.specs.declared.Platform.{Platform}
-use Rattle.plan.specs.declared.Flow.{Flow}
+use Rattle.plan_values.specs.declared.Platform.{Platform}
+use Rattle.plan_values.specs.declared.Flow.{Flow}
 use Rattle.plan.specs.Legal.{flow}
 use Rattle.recurrence.specs.declared.Settled.{Settled}
 use Rattle.recurrence.specs.Recurrence.{Term, rightSide}
@@ -27,18 +27,18 @@ use Rattle.model.proofs.Judged.{direct-above, says-settled, says-once}
 use Rattle.model.proofs.Verdicts.{verdict-says}
 use Rattle.model.proofs.Fits.{latency-small, latency-some, latency-within, limit-period, bound-said, bound-within, either, terms-fair}
 use Rattle.pairs.specs.Scene.{Scene}
-use Rattle.engine.specs.declared.rows.Row.{Row}
-use Rattle.engine.specs.declared.terms.Way.{Way}
-use Rattle.engine.specs.Filled.{Filled}
-use Rattle.engine.specs.Figures.{cost-at, bound-at}
-use Rattle.engine.specs.Loads.{sumTo, upLoad, downLoad, wayOf, capBy, lookedAt}
-use Rattle.engine.specs.Places.{Listed}
-use Rattle.engine.specs.Search.{Highest}
-use Rattle.engine.specs.Solving.{termAt, Lawful, Solvable}
+use Rattle.engine_rows.specs.declared.rows.Row.{Row}
+use Rattle.engine_terms.specs.declared.terms.Way.{Way}
+use Rattle.engine_rows.specs.Filled.{Filled}
+use Rattle.engine_costs.specs.Figures.{cost-at, bound-at}
+use Rattle.engine_terms.specs.Loads.{sumTo, upLoad, downLoad, wayOf, capBy, lookedAt}
+use Rattle.engine_rows.specs.Places.{Listed}
+use Rattle.engine_rows.specs.Search.{Highest}
+use Rattle.engine_solve.specs.Solving.{termAt, Lawful, Solvable}
 use Rattle.engine.specs.Working.{boundFor, manyFor, ListsAre, FiguresAre, Known}
-use Rattle.engine.proofs.Scenes.{zeros, scene-long, scene-at, scene-read, scene-flow}
-use Rattle.engine.proofs.Places.{At, listed-inside, listed-where, listed-flows, map-along, sum-listed}
-use Rattle.engine.proofs.Thirds.{third-idle}
+use Rattle.engine_rows.proofs.Scenes.{zeros, scene-long, scene-at, scene-read, scene-flow}
+use Rattle.engine_rows.proofs.Places.{At, listed-inside, listed-where, listed-flows, map-along, sum-listed}
+use Rattle.engine_terms.proofs.Thirds.{third-idle}
 use Rattle.engine.proofs.Pairings.{Paired, loads-small, term-is}
 
 pub record Turned (p : Platform) (flows : List Flow) (count i : ℕ) (priorities : List ℕ) (row : Row) (lists firsts hits figures : List (List ℕ)) : Type 0 where

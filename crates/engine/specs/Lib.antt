@@ -1,9 +1,1 @@
-pub mod Filled
-pub mod Figures
-pub mod Loads
-pub mod Places
-pub mod Rows
-pub mod Solving
-pub mod Search
-pub mod Answers
 pub mod Working

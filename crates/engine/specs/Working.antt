@@ -4,18 +4,18 @@ use mathlib.Core.Path.{_≡_}
 use mathlib.Core.Bool.{cond}
 use mathlib.Core.List.{List, []}
 use lib.ListN.{length, take, getD}
-use Rattle.plan.specs.declared.Platform.{Platform}
-use Rattle.plan.specs.declared.Flow.{Flow}
+use Rattle.plan_values.specs.declared.Platform.{Platform}
+use Rattle.plan_values.specs.declared.Flow.{Flow}
 use Rattle.plan.specs.Legal.{flow}
 use Rattle.model.specs.Links.{pairOf}
 use Rattle.model.specs.Latency.{methodUsed, latency}
 use Rattle.model.specs.Interference.{directFor}
 use Rattle.model.specs.Delays.{hits}
 use Rattle.model.specs.Verdicts.{boundIn, verdict}
-use Rattle.engine.specs.Filled.{Filled}
-use Rattle.engine.specs.Figures.{figuresOf}
-use Rattle.engine.specs.Loads.{lookedAt}
-use Rattle.engine.specs.Places.{places, Listed}
+use Rattle.engine_rows.specs.Filled.{Filled}
+use Rattle.engine_costs.specs.Figures.{figuresOf}
+use Rattle.engine_terms.specs.Loads.{lookedAt}
+use Rattle.engine_rows.specs.Places.{places, Listed}
 
 -- The bound of a flow, 0 where it has none.
 abbrev pub boundFor : Platform → List Flow → ℕ → Flow → ℕ

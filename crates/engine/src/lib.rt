@@ -1,39 +1,29 @@
 // From a plan to its answers.
 ghost use mathlib.Core.Path.{_≡_};
 ghost use lib.ListN.{take};
-ghost use Rattle.model.specs.Verdicts.{boundIn, settledVerdict};
+ghost use Rattle.pairs.specs.Pairs.{pairTable};
 ghost use Rattle.pairs.specs.Scene.{Scene};
-ghost use Rattle.engine.specs.Answers.{blankAnswer, answerArray};
-use crate::figures::figures_of;
-use crate::hits::hit_row;
-use crate::latency::latency;
-use crate::latency::limit;
-use crate::numbers::place;
-use crate::rows::priorities_of;
-use crate::rows::row_of;
-use crate::search::next_flow;
-use crate::search::waits_on;
-use crate::solve::solve;
-use crate::terms::looked_at;
-use crate::terms::way_of;
+ghost use Rattle.model.specs.Answers.{blankAnswer, answerArray};
+use engine_costs::figures::figures_of;
+use engine_costs::latency::latency;
+use engine_costs::latency::limit;
+use engine_costs::numbers::place;
+use engine_costs::verdicts::bound_of;
+use engine_costs::verdicts::verdict_of;
+use engine_rows::hits::hit_row;
+use engine_rows::rows::priorities_of;
+use engine_rows::rows::row_of;
+use engine_rows::search::next_flow;
+use engine_rows::search::waits_on;
+use engine_solve::solve;
+use engine_terms::terms::looked_at;
+use engine_terms::terms::way_of;
 use model::Answer;
+use model::Answers;
 use model::Verdict;
+use pairs::PairTable;
 use pairs::pair_table;
 use plan::Plan;
-use recurrence::Settled;
-
-mod figures;
-mod hits;
-mod latency;
-mod loads;
-mod numbers;
-mod rows;
-mod search;
-mod solve;
-pub mod terms;
-
-// The answers in plan order; blanks stand behind them.
-pub type Answers = [Answer; 64];
 
 fn blank_answer() -> Answer
     ensures { λ r. ⌜ r ≡ blankAnswer ⌝ }
@@ -44,34 +34,14 @@ fn blank_answer() -> Answer
     }
 }
 
-fn bound_of(v: Verdict) -> u32
-    ensures { λ r. ⌜ r ≡ boundIn v ⌝ }
-{
-    match v {
-        Verdict::Bounded(r, _) => r,
-        Verdict::Late(_) => 0,
-        Verdict::Waits(_) => 0,
-    }
-}
-
-fn verdict_of(s: Settled) -> Verdict
-    ensures { λ r. ⌜ r ≡ settledVerdict s ⌝ }
-{
-    match s {
-        Settled::Bounded(r, k) => Verdict::Bounded(r, k),
-        Settled::Late(k) => Verdict::Late(k),
-    }
-}
-
-// The flows are taken in order of priority: a flow's verdict asks for those of its direct flows, which are higher.
-pub fn analyse_plan(plan: Plan) -> Answers
-    requires { ⌜ Scene (plan .platform) (plan .flows) (plan .count) ⌝ }
+// With the plan's pair table at hand. The flows are taken in order of priority: a flow's verdict asks for those of its direct flows, which are higher.
+pub fn analyse_table(plan: Plan, table: PairTable) -> Answers
+    requires { ⌜ Scene (plan .platform) (plan .flows) (plan .count) × (table ≡ pairTable (plan .platform) (take (plan .count) (plan .flows))) ⌝ }
     ensures { λ r. ⌜ r ≡ answerArray (plan .platform) (take (plan .count) (plan .flows)) ⌝ }
 {
     let flows = plan.flows;
     let count = plan.count;
     let way = way_of(plan.platform);
-    let table = pair_table(plan.platform, flows, count);
     let priorities = priorities_of(plan);
     let mut lists = [[0u8; 64]; 64];
     let mut firsts = [[0u8; 64]; 64];
@@ -107,4 +77,12 @@ pub fn analyse_plan(plan: Plan) -> Answers
         figures[i] = figures_of(f, c, bound, seen);
         last = f.priority;
     }
+}
+
+pub fn analyse_plan(plan: Plan) -> Answers
+    requires { ⌜ Scene (plan .platform) (plan .flows) (plan .count) ⌝ }
+    ensures { λ r. ⌜ r ≡ answerArray (plan .platform) (take (plan .count) (plan .flows)) ⌝ }
+{
+    let flows = plan.flows;
+    analyse_table(plan, pair_table(plan.platform, flows, plan.count))
 }

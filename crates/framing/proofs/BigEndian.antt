@@ -5,9 +5,9 @@ use mathlib.Core.List.{List, [], _∷_, _++_}
 use native.Mathlib.Omega.{arith}
 use lib.ListN.{length}
 use Rattle.framing.specs.BigEndian.{byteOf, twoBytes, fourBytes, numberBytes}
-use Rattle.framing.specs.Numbers.{oneAt, twoAt, bytesOf, numberAt, Bytes}
-use Rattle.framing.specs.declared.numbers.Width.{Width}
-use Rattle.framing.specs.declared.numbers.Width.the-variants.{One, Two, Four}
+use Rattle.framing_numbers.specs.Numbers.{oneAt, twoAt, bytesOf, numberAt, Bytes}
+use Rattle.framing_numbers.specs.declared.Width.{Width}
+use Rattle.framing_numbers.specs.declared.Width.the-variants.{One, Two, Four}
 use Rattle.framing.proofs.Parts.{part, part-one, part-join}
 
 -- A number below 2 ^ 16 from its two bytes, and one below 2 ^ 32 from its four.

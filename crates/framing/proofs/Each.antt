@@ -8,7 +8,7 @@ use mathlib.Core.List.{List, [], _∷_, _++_, append-assoc, append-nil}
 use lib.ListN.{length, take, getD, length-append, List·getD-append}
 use lib.Seq.{take-suc, getD-append-add}
 use Rattle.framing.specs.Each.{each}
-use Rattle.framing.specs.Numbers.{oneAt}
+use Rattle.framing_numbers.specs.Numbers.{oneAt}
 
 module _ {A : Type 0} (made : A → List ℕ) where
   pub each-append : (xs ys : List A) → each made (xs ++ ys) ≡ each made xs ++ each made ys

@@ -1,4 +1,3 @@
-mod Widths
 mod Copied
 pub mod Parts
 pub mod BigEndian
@@ -7,7 +6,5 @@ pub mod Puts
 pub mod Writing
 pub mod Stands
 pub mod Rooms
-pub mod Held
-pub mod Taking
-pub mod Travels
 pub mod First
+pub mod Tests

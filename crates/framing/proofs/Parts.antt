@@ -4,7 +4,7 @@ use mathlib.Core.Path.{_≡_, sym, ap, _∙_}
 use mathlib.Core.List.{List, [], _∷_, _++_}
 use lib.ListN.{length, take, drop}
 use lib.Seq.{drop-cons, drop-drop, take-add}
-use Rattle.framing.specs.Numbers.{oneAt}
+use Rattle.framing_numbers.specs.Numbers.{oneAt}
 
 -- The n bytes from place `at` on.
 abbrev pub part : List ℕ → ℕ → ℕ → List ℕ

@@ -4,7 +4,7 @@ use mathlib.Core.Path.{_≡_, ap₂, _∙_}
 use mathlib.Core.List.{List}
 use native.Mathlib.Nat.{add-zero, add-assoc}
 use native.Mathlib.Omega.{arith}
-use Rattle.framing.specs.Numbers.{oneAt, twoAt, fourAt}
+use Rattle.framing_numbers.specs.Numbers.{oneAt, twoAt, fourAt}
 use Rattle.framing.specs.Header.{Headed}
 
 -- From b on s holds the first n bytes of t.

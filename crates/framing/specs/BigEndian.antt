@@ -1,8 +1,8 @@
 -- Document 01, "The plan's bytes": "Numbers are unsigned, most significant byte first." The bytes of a number, as they are written.
 use Prim.Native.Nat.{ℕ, _/_, _%_}
 use mathlib.Core.List.{List, [], _∷_}
-use Rattle.framing.specs.declared.numbers.Width.{Width}
-use Rattle.framing.specs.declared.numbers.Width.the-variants.{One, Two, Four}
+use Rattle.framing_numbers.specs.declared.Width.{Width}
+use Rattle.framing_numbers.specs.declared.Width.the-variants.{One, Two, Four}
 
 -- The byte of a number that counts so many times.
 abbrev pub byteOf : ℕ → ℕ → ℕ

@@ -6,7 +6,7 @@ use mathlib.Core.Bool.{Bool}
 use mathlib.Core.List.{List, [], _∷_}
 use lib.ListN.{length}
 use lib.Dec.{ltb}
-use Rattle.framing.specs.Numbers.{oneAt, twoAt}
+use Rattle.framing_numbers.specs.Numbers.{oneAt, twoAt}
 
 abbrev pub tagAt : List ℕ → ℕ → ℕ
 tagAt s at = oneAt s at

@@ -1,9 +1,7 @@
 -- What the contracts of this crate and of the crates above it cite.
-pub mod Numbers
 pub mod BigEndian
 pub mod Header
 pub mod Put
 pub mod Each
-pub mod Reader
 pub mod First
 pub mod Returned

@@ -4,6 +4,8 @@ use mathlib.Core.List.{List, _++_}
 use lib.Dec.{ltb}
 use lib.ListN.{length, drop}
 use Rattle.framing.specs.First.{_when_else_}
+use Rattle.framing.specs.declared.returned.Outcome.{Outcome}
+use Rattle.framing.specs.declared.returned.Outcome.the-variants.{Accepted, Refused}
 use Rattle.framing.specs.declared.returned.Returned.{Returned}
 
 -- "A refusal returns its number and place .. Acceptance returns number 0 and the reply's length."
@@ -17,6 +19,16 @@ acceptedWith long = record { number = 0; value = long }
 unfoldable pub roomFor : ℕ → ℕ → Returned
 roomFor needed room = refusedWith 11 0 when ltb room needed else acceptedWith needed
 
--- A refusal: "the whole reply buffer holds what it held before". "A longer buffer keeps its further bytes."
+-- "A longer buffer keeps its further bytes."
 unfoldable pub putInto : ℕ → List ℕ → List ℕ → List ℕ
 putInto needed bytes held = held when ltb (length held) needed else bytes ++ drop needed held
+
+-- "Then 10, then 11": by what the reading came to, and only then by the buffer's room.
+unfoldable pub returnedBy : Outcome → ℕ → ℕ → Returned
+returnedBy (Refused number place) needed room = refusedWith number place
+returnedBy Accepted needed room = roomFor needed room
+
+-- A refusal: "the whole reply buffer holds what it held before".
+unfoldable pub leftBy : Outcome → ℕ → List ℕ → List ℕ → List ℕ
+leftBy (Refused number place) needed bytes held = held
+leftBy Accepted needed bytes held = putInto needed bytes held

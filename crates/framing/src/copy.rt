@@ -1,4 +1,4 @@
-// Bytes copied into a lent slice at a place of it.
+// Bytes copied into a lent slice: at a place of it, or over the whole of it.
 ghost use mathlib.Core.Path.{_≡_};
 ghost use Prim.Native.Nat.{_+_, _≤_};
 ghost use lib.ListN.{length};
@@ -15,4 +15,12 @@ pub fn copy_in(into: &mut [u8], at: usize, from: &[u8]) -> usize
         k += 1;
     }
     at + k
+}
+
+// Copies a record's bytes over a part that is as long.
+pub fn put_whole(part: &mut [u8], bytes: &[u8])
+    requires { ⌜ length (now part) ≡ length (now bytes) ⌝ }
+    ensures { λ _. ⌜ now (part .exit) ≡ now (bytes .entry) ⌝ }
+{
+    copy_in(part, 0, bytes);
 }

@@ -3,7 +3,7 @@ ghost use mathlib.Core.Path.{_≡_};
 ghost use Prim.Native.Nat.{_+_, _≤_};
 ghost use lib.ListN.{length};
 ghost use Rattle.framing.specs.Header.{tagAt, lengthAt, headerCut, bodyCut, endRecord};
-use crate::numbers::two_at;
+use framing_numbers::two_at;
 
 // Whether under 3 bytes remain; of a place behind the end none do.
 pub fn header_cut(s: &[u8], at: usize) -> bool

@@ -2,6 +2,4 @@
 pub mod big_endian;
 pub mod copy;
 pub mod header;
-pub mod numbers;
-pub mod reader;
 pub mod returned;

@@ -5,8 +5,9 @@ use mathlib.Core.List.{List, [], _∷_, _++_, map}
 use lib.ListN.{take, set}
 use Rattle.framing.specs.First.{_when_else_}
 use Rattle.framing.specs.Each.{each}
-use Rattle.plan.specs.Table.{tagOf}
-use Rattle.plan.specs.Checks.{headerAt, taggedAt, frameAt, fieldsFrom, clashAt, tailAt, restAt, _then_, bodyAt, recordAt}
+use Rattle.plan_table.specs.Table.{tagOf}
+use Rattle.plan_checks.specs.Checks.{headerAt, taggedAt, frameAt, clashAt, tailAt, restAt}
+use Rattle.plan.specs.Records.{fieldsFrom, _then_, bodyAt, recordAt}
 use Rattle.plan.specs.Reading.{accepted, refused, after, records, readPlan}
 use Rattle.plan.specs.PlanP.{P}
 use Rattle.mesh.specs.Mesh.{hops, along, xy}
@@ -18,8 +19,9 @@ use Rattle.model.specs.Latency.{methodUsed, latency}
 use Rattle.model.specs.Interference.{directFor, indirectFor, comesBefore, those}
 use Rattle.model.specs.Delays.{allowance, weight, term, terms}
 use Rattle.model.specs.Verdicts.{highest, judged, judge, verdictBelow, verdict, answers}
-use Rattle.lines.specs.Decimal.{digitsBelow, decimal}
-use Rattle.lines.specs.Lines.{item, meshStart, meshLine, told, flowLine, refusalLine, textBy, textOf}
+use Rattle.lines_each.specs.Decimal.{digitsBelow, decimal}
+use Rattle.lines_each.specs.Lines.{item, meshStart, meshLine, told, flowLine, refusalLine}
+use Rattle.lines.specs.Lines.{textBy, textOf}
 
 -- The method's digit stands at the end of P's first line.
 abbrev meshOf : ℕ → List ℕ

@@ -1,6 +1,4 @@
--- Numbers, parts, lines, the text.
-mod Digits
-mod Chain
+-- The lines, the text.
 mod Listing
 mod Printing
 pub mod Theorems

@@ -7,9 +7,9 @@ use lib.ListN.{length, take, getD}
 use Rattle.framing.specs.Each.{each}
 use Rattle.framing.proofs.Each.{each-more}
 use Rattle.model.specs.declared.Answer.{Answer}
-use Rattle.lines.specs.Written.{Written}
-use Rattle.lines.specs.Lines.{flowLine}
-use Rattle.lines.proofs.Chain.{chain, length-held, written-none}
+use Rattle.lines_each.specs.Written.{Written}
+use Rattle.lines_each.specs.Lines.{flowLine}
+use Rattle.lines_each.proofs.Chain.{chain, length-held, written-none}
 
 pub record Listing (was : List ℕ) (at : ℕ) (list : List Answer) (count : ℕ) (out : List ℕ) (next i : ℕ) : Type 0 where
   pub room : at + 48 * count + 32 ≤ length was

@@ -9,15 +9,16 @@ use lib.ListN.{length, take, drop, replicate}
 use lib.Seq.{length-take-le}
 use Rattle.io.specs.Counts.{Counts}
 use Rattle.framing.specs.Each.{each}
-use Rattle.plan.specs.declared.Outcome.the-variants.{Accepted, Refused}
+use Rattle.framing.specs.declared.returned.Outcome.the-variants.{Accepted, Refused}
 use Rattle.plan.specs.declared.Reading.{Reading}
 use Rattle.plan.specs.Reading.{readPlan}
 use Rattle.model.specs.declared.Answer.{Answer}
-use Rattle.engine.specs.Answers.{answerArray}
+use Rattle.model.specs.Answers.{answerArray}
 use Rattle.engine.proofs.Accepted.{reading-scene, first-answers}
-use Rattle.lines.specs.Written.{Written}
-use Rattle.lines.specs.Lines.{meshLine, flowLine, refusalLine, textBy, textOf, handed}
-use Rattle.lines.proofs.Chain.{chain, length-held}
+use Rattle.lines_each.specs.Written.{Written}
+use Rattle.lines_each.specs.Lines.{meshLine, flowLine, refusalLine}
+use Rattle.lines.specs.Lines.{textBy, textOf, handed}
+use Rattle.lines_each.proofs.Chain.{chain, length-held}
 
 zeros-left : (n k : ℕ) → drop {A = ℕ} k (replicate n 0) ≡ replicate (n - k) 0
 zeros-left n zero = simp unary-clauses refl

@@ -1,5 +1,2 @@
 -- The text that `bounds` prints.
-pub mod Words
-pub mod Decimal
-pub mod Written
 pub mod Lines

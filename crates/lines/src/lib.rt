@@ -4,18 +4,16 @@ ghost use Prim.Native.Nat.{_+_, _*_, _≤_};
 ghost use lib.ListN.{length, take};
 ghost use Rattle.framing.specs.Each.{each};
 ghost use Rattle.io.specs.Counts.{Counts};
-ghost use Rattle.lines.specs.Lines.{flowLine, textOf, handed};
-ghost use Rattle.lines.specs.Written.{Written};
-use crate::line::put_flow;
-use crate::line::put_mesh;
-use crate::line::put_refusal;
-use engine::Answers;
+ghost use Rattle.lines_each.specs.Lines.{flowLine};
+ghost use Rattle.lines.specs.Lines.{textOf, handed};
+ghost use Rattle.lines_each.specs.Written.{Written};
 use engine::analyse_plan;
-use plan::Outcome;
+use framing::returned::Outcome;
+use lines_each::line::put_flow;
+use lines_each::line::put_mesh;
+use lines_each::line::put_refusal;
+use model::Answers;
 use plan::read;
-
-mod line;
-mod number;
 
 // The text's bytes are the first `length`; zeros stand behind them. There is room for 64 flows.
 pub struct Text {

@@ -5,7 +5,4 @@ pub mod Runs
 pub mod Walks
 pub mod Counts
 pub mod Sides
-pub mod Keeping
-pub mod Hopping
-pub mod Entering
 pub mod Theorems

@@ -2,5 +2,4 @@
 pub mod Mesh
 pub mod Shared
 pub mod Halves
-pub mod Stretches
 pub mod Examples

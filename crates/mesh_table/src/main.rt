@@ -1,5 +1,5 @@
 // Prints, for some small meshes, a digest of the shared links of every ordered pair of routes.
-use mesh::shared::Pair;
+use mesh::Pair;
 ghost use mathlib.Core.Path.{_≡_};
 ghost use Prim.Native.Nat.{_<_, _≤_};
 ghost use Rattle.mesh.specs.Mesh.{Ends};
@@ -96,7 +96,7 @@ fn compared(columns: u8, e: Flows, d: Digest) -> Digest
     }
     let a = mesh::spots::spots_of(columns, e.source, e.destination);
     let b = mesh::spots::spots_of(columns, e.source2, e.destination2);
-    told(d, mesh::shared::shared_links(a, b))
+    told(d, mesh_shared::shared_links(a, b))
 }
 
 // The digest of all ordered pairs of routes.

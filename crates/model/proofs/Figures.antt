@@ -8,10 +8,11 @@ use lib.ListN.{take, set}
 use Rattle.framing.specs.First.{_when_else_}
 use Rattle.framing.specs.Put.{put}
 use Rattle.plan.specs.declared.Plan.{Plan}
-use Rattle.plan.specs.declared.Outcome.{Outcome}
-use Rattle.plan.specs.declared.Outcome.the-variants.{Accepted, Refused}
-use Rattle.plan.specs.Table.{tagOf}
-use Rattle.plan.specs.Checks.{headerAt, taggedAt, frameAt, fieldsFrom, clashAt, tailAt, restAt, _then_, bodyAt, recordAt}
+use Rattle.framing.specs.declared.returned.Outcome.{Outcome}
+use Rattle.framing.specs.declared.returned.Outcome.the-variants.{Accepted, Refused}
+use Rattle.plan_table.specs.Table.{tagOf}
+use Rattle.plan_checks.specs.Checks.{headerAt, taggedAt, frameAt, clashAt, tailAt, restAt}
+use Rattle.plan.specs.Records.{fieldsFrom, _then_, bodyAt, recordAt}
 use Rattle.plan.specs.Reading.{accepted, refused, after, records, readPlan}
 use Rattle.plan.specs.PlanP.{P}
 use Rattle.mesh.specs.Mesh.{hops, along, xy}

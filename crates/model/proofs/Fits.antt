@@ -6,8 +6,8 @@ use mathlib.Core.List.{List, [], _∷_, map}
 use native.Mathlib.Nat.{le-refl, mul-le-mul}
 use native.Mathlib.Omega.{arith}
 use lib.ListN.{length}
-use Rattle.plan.specs.declared.Platform.{Platform}
-use Rattle.plan.specs.declared.Flow.{Flow}
+use Rattle.plan_values.specs.declared.Platform.{Platform}
+use Rattle.plan_values.specs.declared.Flow.{Flow}
 use Rattle.plan.specs.Legal.{LegalPlatform, LegalFlow, Legal, flow}
 use Rattle.mesh.proofs.Theorems.{route-most}
 use Rattle.recurrence.specs.Rounding.{up}
@@ -27,7 +27,7 @@ use Rattle.model.specs.Delays.{hits, hitSum, buffered, allowance, weight
 use Rattle.model.specs.Verdicts.{boundIn, isBounded, termsOf, recurrenceOf}
 use Rattle.model.specs.Rules.{AllBounded, Says}
 use Rattle.model.proofs.Links.{ends, route-within}
-use Rattle.model.proofs.Judged.{and-left}
+use Rattle.framing.proofs.Tests.{and-left}
 
 -- ---- latencies and hits are small
 module _ {p : Platform} {f : Flow} (lp : LegalPlatform p) (l : LegalFlow p f) where

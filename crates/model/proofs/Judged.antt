@@ -10,8 +10,9 @@ use native.Mathlib.Omega.{arith}
 use lib.Dec.{ltb}
 use lib.ListN.{length}
 use borrow.Author.Tests.{ltb-true}
-use Rattle.plan.specs.declared.Platform.{Platform}
-use Rattle.plan.specs.declared.Flow.{Flow}
+use Rattle.framing.proofs.Tests.{and-left, and-right, and-both, not-flip}
+use Rattle.plan_values.specs.declared.Platform.{Platform}
+use Rattle.plan_values.specs.declared.Flow.{Flow}
 use Rattle.plan.specs.Legal.{Distinct, Legal, flow}
 use Rattle.recurrence.specs.declared.Settled.{Settled}
 use Rattle.recurrence.specs.declared.Settled.the-variants.{Bounded as BoundedAt, Late as LateAfter}
@@ -27,22 +28,6 @@ use Rattle.model.specs.Delays.{terms}
 use Rattle.model.specs.Verdicts.{isBounded, termsOf, recurrenceOf, holdsUp, highest, settledVerdict, judged, judge}
 use Rattle.model.specs.Rules.{Unbounded, AllBounded, Says}
 use Rattle.model.proofs.Those.{those-same, map-those, Came, came}
-
--- ---- a conjunction's halves
-pub and-left : (a b : Bool) → (a && b) ≡ true → a ≡ true
-and-left true b e = refl
-and-left false b e = e
-
-pub and-right : (a b : Bool) → (a && b) ≡ true → b ≡ true
-and-right true b e = e
-and-right false b e = absurd (false≢true e)
-
-pub and-both : {a b : Bool} → a ≡ true → b ≡ true → (a && b) ≡ true
-and-both e f = rw (e, f)
-
-pub not-flip : (a : Bool) → not a ≡ true → a ≡ false
-not-flip true e = absurd (false≢true e)
-not-flip false e = refl
 
 -- "j has higher priority": a direct flow has a smaller priority number
 pub direct-above : (p : Platform) (i j : Flow) → directFor p i j ≡ true → j .priority < i .priority

@@ -8,8 +8,8 @@ use native.Mathlib.Omega.{arith}
 use lib.Dec.{ltb}
 use lib.ListN.{length}
 use borrow.Author.Tests.{ltb-true, ltb-false, lt-ltb, le-ltb}
-use Rattle.plan.specs.declared.Platform.{Platform}
-use Rattle.plan.specs.declared.Flow.{Flow}
+use Rattle.plan_values.specs.declared.Platform.{Platform}
+use Rattle.plan_values.specs.declared.Flow.{Flow}
 use Rattle.plan.specs.Legal.{Legal, flow}
 use Rattle.mesh.specs.Shared.{AllBefore, Sides}
 use Rattle.mesh.proofs.Theorems.{sides}
@@ -17,7 +17,8 @@ use Rattle.model.specs.Links.{routeOf, pairOf}
 use Rattle.model.specs.Interference.{directFor, indirectFor, comesBefore, upstreamFor, downstreamFor}
 use Rattle.model.proofs.Links.{ends-of}
 use Rattle.model.proofs.Fits.{indirect-direct}
-use Rattle.model.proofs.Judged.{and-right, and-both, not-flip, direct-above}
+use Rattle.framing.proofs.Tests.{and-right, and-both, not-flip}
+use Rattle.model.proofs.Judged.{direct-above}
 
 -- k is upstream or downstream, and not both.
 pub one-side : (p : Platform) (i j k : Flow) → indirectFor p i j k ≡ true → upstreamFor p i j k ≡ not (downstreamFor p i j k)

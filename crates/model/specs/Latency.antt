@@ -3,8 +3,8 @@ use Prim.Native.Nat.{ℕ, _+_, _-_, _*_}
 use lib.Dec.{eqb}
 use lib.ListN.{length}
 use Rattle.framing.specs.First.{_when_else_}
-use Rattle.plan.specs.declared.Platform.{Platform}
-use Rattle.plan.specs.declared.Flow.{Flow}
+use Rattle.plan_values.specs.declared.Platform.{Platform}
+use Rattle.plan_values.specs.declared.Flow.{Flow}
 use Rattle.model.specs.Links.{routeOf}
 use Rattle.model.specs.declared.Method.{Method}
 use Rattle.model.specs.declared.Method.the-variants.{SB, XLWX, IBN}

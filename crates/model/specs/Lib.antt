@@ -5,3 +5,5 @@ pub mod Interference
 pub mod Delays
 pub mod Verdicts
 pub mod Rules
+-- The answers in an array.
+pub mod Answers

@@ -1,9 +1,9 @@
 -- Document 01, "Routes and shared links", over the flows of a plan.
 use Prim.Native.Nat.{ℕ}
 use mathlib.Core.List.{List}
-use Rattle.plan.specs.declared.Platform.{Platform}
-use Rattle.plan.specs.declared.Flow.{Flow}
-use Rattle.mesh.specs.declared.shared.Pair.{Pair}
+use Rattle.plan_values.specs.declared.Platform.{Platform}
+use Rattle.plan_values.specs.declared.Flow.{Flow}
+use Rattle.mesh.specs.declared.Pair.{Pair}
 use Rattle.mesh.specs.Mesh.{route}
 use Rattle.mesh.specs.Shared.{shared-count, first-shared}
 

@@ -20,3 +20,6 @@ pub struct Answer {
     pub id: u16,
     pub verdict: Verdict,
 }
+
+// The answers in plan order; blanks stand behind them.
+pub type Answers = [Answer; 64];

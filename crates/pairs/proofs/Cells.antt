@@ -4,12 +4,12 @@ use mathlib.Core.Path.{_≡_, ap, _∙_}
 use mathlib.Core.List.{List, map}
 use native.Mathlib.Omega.{arith}
 use lib.ListN.{length, getD, length-map, List·getD-append, List·getD-map}
-use Rattle.plan.specs.declared.Platform.{Platform}
-use Rattle.plan.specs.declared.Flow.{Flow}
+use Rattle.plan_values.specs.declared.Platform.{Platform}
+use Rattle.plan_values.specs.declared.Flow.{Flow}
 use Rattle.plan.specs.Padded.{padded}
-use Rattle.plan.specs.Values.{blankFlow}
+use Rattle.plan_values.specs.Values.{blankFlow}
 use Rattle.plan.specs.Legal.{flow}
-use Rattle.mesh.specs.declared.shared.Pair.{Pair}
+use Rattle.mesh.specs.declared.Pair.{Pair}
 use Rattle.model.specs.Links.{pairOf}
 use Rattle.pairs.specs.Pairs.{noPair, noRow, pairTable}
 use Rattle.pairs.proofs.Tables.{any-default}

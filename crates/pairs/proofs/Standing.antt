@@ -5,13 +5,13 @@ use mathlib.Core.Path.{_≡_, ap, _∙_}
 use mathlib.Core.List.{List, map, map-map}
 use lib.ListN.{length, getD, take, length-map}
 use lib.Seq.{take-at, length-take-le, getD-take}
-use Rattle.plan.specs.declared.Platform.{Platform}
-use Rattle.plan.specs.declared.Flow.{Flow}
+use Rattle.plan_values.specs.declared.Platform.{Platform}
+use Rattle.plan_values.specs.declared.Flow.{Flow}
 use Rattle.plan.specs.Padded.{padded}
-use Rattle.plan.specs.Values.{blankFlow}
+use Rattle.plan_values.specs.Values.{blankFlow}
 use Rattle.plan.specs.Legal.{flow}
 use Rattle.mesh.specs.declared.spots.Spots.{Spots}
-use Rattle.mesh.specs.declared.shared.Pair.{Pair}
+use Rattle.mesh.specs.declared.Pair.{Pair}
 use Rattle.mesh.specs.Mesh.{Ends}
 use Rattle.mesh.specs.Shared.{Shares}
 use Rattle.mesh.specs.Halves.{between}

@@ -1,10 +1,10 @@
 -- Document 01, "Routes and shared links": the table that the analysis keeps.
 use mathlib.Core.List.{List, map}
 use lib.ListN.{replicate}
-use Rattle.plan.specs.declared.Platform.{Platform}
-use Rattle.plan.specs.declared.Flow.{Flow}
+use Rattle.plan_values.specs.declared.Platform.{Platform}
+use Rattle.plan_values.specs.declared.Flow.{Flow}
 use Rattle.plan.specs.Padded.{padded}
-use Rattle.mesh.specs.declared.shared.Pair.{Pair}
+use Rattle.mesh.specs.declared.Pair.{Pair}
 use Rattle.model.specs.Links.{pairOf}
 
 -- What stands behind the flows of a plan.

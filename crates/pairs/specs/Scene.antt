@@ -3,10 +3,10 @@ use Prim.Native.Nat.{ℕ, _≤_, _<_}
 use mathlib.Core.Path.{_≡_}
 use mathlib.Core.List.{List}
 use lib.ListN.{length, take, getD}
-use Rattle.plan.specs.declared.Platform.{Platform}
-use Rattle.plan.specs.declared.Flow.{Flow}
+use Rattle.plan_values.specs.declared.Platform.{Platform}
+use Rattle.plan_values.specs.declared.Flow.{Flow}
 use Rattle.plan.specs.Legal.{Legal, flow}
-use Rattle.mesh.specs.declared.shared.Pair.{Pair}
+use Rattle.mesh.specs.declared.Pair.{Pair}
 use Rattle.model.specs.Links.{pairOf}
 use Rattle.pairs.specs.Pairs.{noPair}
 

@@ -2,11 +2,11 @@
 use Prim.Native.Nat.{ℕ, _≤_, _<_}
 use mathlib.Core.List.{List, map}
 use lib.ListN.{getD}
-use Rattle.plan.specs.declared.Platform.{Platform}
-use Rattle.plan.specs.declared.Flow.{Flow}
+use Rattle.plan_values.specs.declared.Platform.{Platform}
+use Rattle.plan_values.specs.declared.Flow.{Flow}
 use Rattle.plan.specs.Padded.{padded}
 use Rattle.mesh.specs.declared.spots.Spots.{Spots}
-use Rattle.mesh.specs.declared.shared.Pair.{Pair}
+use Rattle.mesh.specs.declared.Pair.{Pair}
 use Rattle.mesh.specs.Shared.{shared-count, first-shared}
 use Rattle.mesh.specs.Halves.{spotsOf, OnMesh, between}
 use Rattle.pairs.specs.Pairs.{noPair}

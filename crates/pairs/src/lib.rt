@@ -7,13 +7,13 @@ ghost use Rattle.pairs.specs.Scene.{Scene};
 ghost use Rattle.mesh.specs.Halves.{OnMesh};
 ghost use Rattle.pairs.specs.Pairs.{noPair, pairTable};
 ghost use Rattle.pairs.specs.Spots.{noSpots, spotsIn, rowOf, AllOnMesh};
-use mesh::shared::Pair;
-use mesh::shared::shared_links;
+use mesh::Pair;
 use mesh::spots::Spot;
 use mesh::spots::Spots;
 use mesh::spots::spots_of;
-use plan::Flows;
-use plan::Platform;
+use mesh_shared::shared_links;
+use plan_values::Flows;
+use plan_values::Platform;
 
 // Row i, cell j: what the flows i and j of the plan share.
 pub type PairRow = [Pair; 64];

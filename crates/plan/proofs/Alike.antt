@@ -9,26 +9,28 @@ use lib.ListN.{length}
 use lib.Dec.{eqb}
 use borrow.Author.Tests.{eqb-true, lt-ltb, le-ltb}
 use Rattle.framing.specs.First.{_when_else_}
-use Rattle.framing.specs.Numbers.{oneAt, twoAt, bytesOf, numberAt}
+use Rattle.framing_numbers.specs.Numbers.{oneAt, twoAt, bytesOf, numberAt}
 use Rattle.framing.specs.Header.{tagAt, lengthAt, bodyCut}
-use Rattle.framing.specs.declared.numbers.Width.{Width}
-use Rattle.framing.specs.declared.numbers.Width.the-variants.{One, Two, Four}
-use Rattle.plan.specs.Table.{tagOf, bodyLength, fieldsOf, width}
-use Rattle.plan.specs.Values.{platformAt, flowAt, limitsAt, blankPlatform}
-use Rattle.plan.specs.Checks.{wrongLength, headerAt, taggedAt, frameAt, fieldsFrom, clashAt, tailAt, restAt, _then_, bodyAt, recordAt}
+use Rattle.framing_numbers.specs.declared.Width.{Width}
+use Rattle.framing_numbers.specs.declared.Width.the-variants.{One, Two, Four}
+use Rattle.plan_table.specs.Table.{tagOf, bodyLength, fieldsOf, width}
+use Rattle.plan_values.specs.Values.{platformAt, flowAt, blankPlatform}
+use Rattle.plan_checks.specs.Checks.{limitsAt}
+use Rattle.plan_checks.specs.Checks.{wrongLength, headerAt, taggedAt, frameAt, clashAt, tailAt, restAt}
+use Rattle.plan.specs.Records.{fieldsFrom, _then_, bodyAt, recordAt}
 use Rattle.plan.specs.Reading.{records, readPlan}
 use Rattle.plan.specs.Layout.{place}
-use Rattle.plan.specs.declared.Platform.{Platform}
-use Rattle.plan.specs.declared.Flow.{Flow}
+use Rattle.plan_values.specs.declared.Platform.{Platform}
+use Rattle.plan_values.specs.declared.Flow.{Flow}
 use Rattle.plan.specs.declared.Reading.{Reading}
-use Rattle.plan.specs.declared.checks.Checked.{Checked}
-use Rattle.plan.specs.declared.checks.Checked.the-variants.{Fault, Passed}
-use Rattle.plan.specs.declared.table.Field.{Field}
-use Rattle.plan.specs.declared.table.Kind.{Kind}
-use Rattle.plan.specs.declared.table.Kind.the-variants.{PlatformRecord, FlowRecord, EndRecord}
-use Rattle.plan.specs.declared.table.Tag.{Tag}
-use Rattle.plan.specs.declared.table.Tag.the-variants.{Known, Unknown}
-use Rattle.plan.specs.declared.values.Limits.{Limits}
+use Rattle.plan_checks.specs.declared.Checked.{Checked}
+use Rattle.plan_checks.specs.declared.Checked.the-variants.{Fault, Passed}
+use Rattle.plan_table.specs.declared.Field.{Field}
+use Rattle.plan_table.specs.declared.Kind.{Kind}
+use Rattle.plan_table.specs.declared.Kind.the-variants.{PlatformRecord, FlowRecord, EndRecord}
+use Rattle.plan_table.specs.declared.Tag.{Tag}
+use Rattle.plan_table.specs.declared.Tag.the-variants.{Known, Unknown}
+use Rattle.plan_checks.specs.declared.Limits.{Limits}
 use Rattle.plan.proofs.Order.{flow-room, platform-first, others-later, fine, fault-ends, platform-leads, flow-leads, end-accepts}
 use Rattle.plan.proofs.Scan.{sizeOf, filled}
 use Rattle.plan.proofs.Growth.{longer}

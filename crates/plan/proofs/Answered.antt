@@ -6,21 +6,23 @@ use mathlib.Core.List.{List, [], _∷_, _++_}
 use lib.ListN.{length}
 use borrow.Author.Tests.{eqb-false, ltb-false}
 use Rattle.framing.specs.Header.{tagAt, Headed}
-use Rattle.plan.specs.Table.{tagByte, bodyLength, fieldsOf}
-use Rattle.plan.specs.Values.{platformAt, flowAt, limitsAt, blankPlatform}
-use Rattle.plan.specs.Checks.{clashAt, tailAt, restAt, recordAt}
+use Rattle.plan_table.specs.Table.{tagByte, bodyLength, fieldsOf}
+use Rattle.plan_values.specs.Values.{platformAt, flowAt, blankPlatform}
+use Rattle.plan_checks.specs.Checks.{limitsAt}
+use Rattle.plan_checks.specs.Checks.{clashAt, tailAt, restAt}
+use Rattle.plan.specs.Records.{recordAt}
 use Rattle.plan.specs.Reading.{accepted, refused, records, readPlan}
 use Rattle.plan.specs.Legal.{LegalPlatform, Legal, flow}
 use Rattle.plan.specs.Layout.{place, Laid}
 use Rattle.plan.specs.Refusals.{Listed}
-use Rattle.plan.specs.declared.Platform.{Platform}
-use Rattle.plan.specs.declared.Flow.{Flow}
+use Rattle.plan_values.specs.declared.Platform.{Platform}
+use Rattle.plan_values.specs.declared.Flow.{Flow}
 use Rattle.plan.specs.declared.Reading.{Reading}
-use Rattle.plan.specs.declared.checks.Checked.{Checked}
-use Rattle.plan.specs.declared.checks.Checked.the-variants.{Fault, Passed}
-use Rattle.plan.specs.declared.table.Kind.{Kind}
-use Rattle.plan.specs.declared.table.Kind.the-variants.{PlatformRecord, FlowRecord, EndRecord}
-use Rattle.plan.proofs.Tags.{tag-byte}
+use Rattle.plan_checks.specs.declared.Checked.{Checked}
+use Rattle.plan_checks.specs.declared.Checked.the-variants.{Fault, Passed}
+use Rattle.plan_table.specs.declared.Kind.{Kind}
+use Rattle.plan_table.specs.declared.Kind.the-variants.{PlatformRecord, FlowRecord, EndRecord}
+use Rattle.plan_table.proofs.Tags.{tag-byte}
 use Rattle.plan.proofs.Order.{passed, Framed, flow-room, platform-first, others-later, Fine, fine, fault-ends, platform-leads, flow-leads, end-accepts}
 use Rattle.plan.proofs.Fields.{passed-allowed, platform-legal, flow-legal}
 use Rattle.plan.proofs.Growth.{longer, each-more, legal-more}

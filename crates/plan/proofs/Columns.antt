@@ -5,7 +5,7 @@ use mathlib.Core.Path.{_≡_, refl, sym, ap, _∙_}
 use mathlib.Core.List.{List, [], _∷_, _++_, map, map-append}
 use lib.ListN.{length, take, set, replicate, length-set}
 use lib.Seq.{length-take-le}
-use Rattle.plan.specs.declared.Flow.{Flow}
+use Rattle.plan_values.specs.declared.Flow.{Flow}
 use Rattle.plan.proofs.Padding.{taken-more}
 
 pub record Column (value : Flow → ℕ) (column : List ℕ) (flows : List Flow) (count : ℕ) : Type 0 where

@@ -6,7 +6,7 @@ use mathlib.Core.Path.{_≡_, ap}
 use mathlib.Core.List.{List}
 use lib.ListN.{length, take}
 use lib.Seq.{take-all, getD-take, length-take-le}
-use Rattle.framing.specs.Numbers.{oneAt}
+use Rattle.framing_numbers.specs.Numbers.{oneAt}
 use Rattle.plan.specs.Reading.{readPlan}
 use Rattle.plan.specs.declared.Reading.{Reading}
 use Rattle.plan.proofs.Alike.{Alike, same, arrived, alike}

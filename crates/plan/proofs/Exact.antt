@@ -10,20 +10,22 @@ use lib.Seq.{take-at, take-all, take-suc, length-take-le, getD-take}
 use lib.Dec.{eqb}
 use borrow.Author.Tests.{ne-eqb, lt-leb}
 use Rattle.framing.specs.First.{_when_else_}
-use Rattle.plan.specs.Table.{fieldsOf}
-use Rattle.plan.specs.Values.{flowAt, limitsAt, blankPlatform, blankFlow}
-use Rattle.plan.specs.Checks.{misplaced, idsOf, prioritiesOf, taken, clashAt, restAt, recordAt}
+use Rattle.plan_table.specs.Table.{fieldsOf}
+use Rattle.plan_values.specs.Values.{flowAt, blankPlatform, blankFlow}
+use Rattle.plan_checks.specs.Checks.{limitsAt}
+use Rattle.plan_checks.specs.Checks.{misplaced, taken, clashAt, restAt}
+use Rattle.plan.specs.Records.{idsOf, prioritiesOf, recordAt}
 use Rattle.plan.specs.Reading.{accepted, refused, records, readPlan}
 use Rattle.plan.specs.Padded.{padded}
 use Rattle.plan.specs.Legal.{Distinct, Legal, flow}
 use Rattle.plan.specs.Layout.{place, Laid}
 use Rattle.plan.specs.Refusals.{Listed}
-use Rattle.plan.specs.declared.Platform.{Platform}
-use Rattle.plan.specs.declared.Flow.{Flow}
+use Rattle.plan_values.specs.declared.Platform.{Platform}
+use Rattle.plan_values.specs.declared.Flow.{Flow}
 use Rattle.plan.specs.declared.Reading.{Reading}
-use Rattle.plan.specs.declared.Outcome.the-variants.{Accepted, Refused}
-use Rattle.plan.specs.declared.checks.Checked.the-variants.{Passed}
-use Rattle.plan.specs.declared.table.Kind.the-variants.{PlatformRecord, FlowRecord}
+use Rattle.framing.specs.declared.returned.Outcome.the-variants.{Accepted, Refused}
+use Rattle.plan_checks.specs.declared.Checked.the-variants.{Passed}
+use Rattle.plan_table.specs.declared.Kind.the-variants.{PlatformRecord, FlowRecord}
 use Rattle.plan.proofs.Frames.{frame-passes, end-passes}
 use Rattle.plan.proofs.Order.{record-rest, platform-leads, flow-leads, end-accepts}
 use Rattle.plan.proofs.Fields.{allowed-passed, legal-platform, legal-flow}

@@ -5,15 +5,16 @@ use mathlib.Core.List.{List, [], _∷_, _++_, map}
 use lib.ListN.{take, drop, set, replicate}
 use Rattle.framing.specs.First.{_when_else_}
 use Rattle.framing.specs.Put.{put}
-use Rattle.plan.specs.Table.{tagOf}
-use Rattle.plan.specs.Values.{blankFlow}
-use Rattle.plan.specs.Checks.{headerAt, taggedAt, frameAt, fieldsFrom, clashAt, tailAt, restAt, _then_, bodyAt, recordAt}
+use Rattle.plan_table.specs.Table.{tagOf}
+use Rattle.plan_values.specs.Values.{blankFlow}
+use Rattle.plan_checks.specs.Checks.{headerAt, taggedAt, frameAt, clashAt, tailAt, restAt}
+use Rattle.plan.specs.Records.{fieldsFrom, _then_, bodyAt, recordAt}
 use Rattle.plan.specs.Reading.{accepted, refused, after, records, readPlan}
 use Rattle.plan.specs.PlanP.{P}
-use Rattle.plan.specs.declared.Outcome.{Outcome}
-use Rattle.plan.specs.declared.Outcome.the-variants.{Accepted, Refused}
-use Rattle.plan.specs.declared.checks.Checked.{Checked}
-use Rattle.plan.specs.declared.checks.Checked.the-variants.{Fault}
+use Rattle.framing.specs.declared.returned.Outcome.{Outcome}
+use Rattle.framing.specs.declared.returned.Outcome.the-variants.{Accepted, Refused}
+use Rattle.plan_checks.specs.declared.Checked.{Checked}
+use Rattle.plan_checks.specs.declared.Checked.the-variants.{Fault}
 
 -- P is accepted, with these values
 plan-P : readPlan P ≡ accepted (record { columns = 6; rows = 1; link = 1; routing = 0; buffer = 10; method = 3 })

@@ -6,20 +6,22 @@ use mathlib.Core.List.{List, [], _∷_}
 use native.Mathlib.Omega.{arith}
 use lib.Dec.{ltb}
 use borrow.Author.Tests.{ltb-false, leb-false, le-ltb, lt-leb}
-use Rattle.framing.specs.Numbers.{bytesOf, numberAt}
+use Rattle.framing_numbers.specs.Numbers.{bytesOf, numberAt}
 use Rattle.framing.specs.First.{_when_else_}
-use Rattle.plan.specs.Table.{platformFields, flowFields, width, lowestOf, highestOf}
-use Rattle.plan.specs.Values.{platformAt, flowAt, limitsAt}
-use Rattle.plan.specs.Checks.{above, fieldsFrom}
+use Rattle.plan_table.specs.Table.{platformFields, flowFields, width, lowestOf, highestOf}
+use Rattle.plan_values.specs.Values.{platformAt, flowAt}
+use Rattle.plan_checks.specs.Checks.{limitsAt}
+use Rattle.plan_checks.specs.Checks.{above}
+use Rattle.plan.specs.Records.{fieldsFrom}
 use Rattle.plan.specs.Legal.{LegalPlatform, LegalFlow}
-use Rattle.plan.specs.declared.Platform.{Platform}
-use Rattle.plan.specs.declared.checks.Checked.the-variants.{Passed}
-use Rattle.plan.specs.declared.table.Field.{Field}
-use Rattle.plan.specs.declared.table.Kind.{Kind}
-use Rattle.plan.specs.declared.table.Kind.the-variants.{FlowRecord}
-use Rattle.plan.specs.declared.table.Limit.{Limit}
-use Rattle.plan.specs.declared.table.Limit.the-variants.{UpTo, BelowNodes, UpToPeriod}
-use Rattle.plan.specs.declared.values.Limits.{Limits}
+use Rattle.plan_values.specs.declared.Platform.{Platform}
+use Rattle.plan_checks.specs.declared.Checked.the-variants.{Passed}
+use Rattle.plan_table.specs.declared.Field.{Field}
+use Rattle.plan_table.specs.declared.Kind.{Kind}
+use Rattle.plan_table.specs.declared.Kind.the-variants.{FlowRecord}
+use Rattle.plan_table.specs.declared.Limit.{Limit}
+use Rattle.plan_table.specs.declared.Limit.the-variants.{UpTo, BelowNodes, UpToPeriod}
+use Rattle.plan_checks.specs.declared.Limits.{Limits}
 use Rattle.plan.proofs.Order.{passed}
 
 abbrev pub Below : Limits → Limit → ℕ → Type 0

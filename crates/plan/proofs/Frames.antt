@@ -9,15 +9,16 @@ use lib.Dec.{eqb}
 use borrow.Author.Tests.{eq-eqb, ne-eqb, le-ltb, le-leb}
 use Rattle.framing.specs.First.{_when_else_}
 use Rattle.framing.specs.Header.{lengthAt, Headed}
-use Rattle.plan.specs.Table.{tagByte, bodyLength}
-use Rattle.plan.specs.Values.{limitsAt}
-use Rattle.plan.specs.Checks.{misplaced, noRoom, headerAt, taggedAt, frameAt, tailAt, restAt, recordAt}
-use Rattle.plan.specs.declared.Platform.{Platform}
-use Rattle.plan.specs.declared.Flow.{Flow}
-use Rattle.plan.specs.declared.checks.Checked.the-variants.{Fault, Passed}
-use Rattle.plan.specs.declared.table.Kind.{Kind}
-use Rattle.plan.specs.declared.table.Kind.the-variants.{FlowRecord, EndRecord}
-use Rattle.plan.proofs.Tags.{tag-known}
+use Rattle.plan_table.specs.Table.{tagByte, bodyLength}
+use Rattle.plan_checks.specs.Checks.{limitsAt}
+use Rattle.plan_checks.specs.Checks.{misplaced, noRoom, headerAt, taggedAt, frameAt, tailAt, restAt}
+use Rattle.plan.specs.Records.{recordAt}
+use Rattle.plan_values.specs.declared.Platform.{Platform}
+use Rattle.plan_values.specs.declared.Flow.{Flow}
+use Rattle.plan_checks.specs.declared.Checked.the-variants.{Fault, Passed}
+use Rattle.plan_table.specs.declared.Kind.{Kind}
+use Rattle.plan_table.specs.declared.Kind.the-variants.{FlowRecord, EndRecord}
+use Rattle.plan_table.proofs.Tags.{tag-known}
 use Rattle.plan.proofs.Order.{record-frame, record-rest}
 use Rattle.plan.proofs.Fields.{allowed-passed}
 

@@ -6,12 +6,13 @@ use mathlib.Core.List.{List, [], _∷_, _++_}
 use lib.ListN.{length}
 use borrow.Author.Tests.{lt-ltb}
 use Rattle.framing.specs.First.{_when_else_}
-use Rattle.plan.specs.Values.{platformAt, flowAt, blankPlatform}
-use Rattle.plan.specs.Checks.{frameAt, recordAt}
+use Rattle.plan_values.specs.Values.{platformAt, flowAt, blankPlatform}
+use Rattle.plan_checks.specs.Checks.{frameAt}
+use Rattle.plan.specs.Records.{recordAt}
 use Rattle.plan.specs.Reading.{accepted, after, records, readPlan}
-use Rattle.plan.specs.declared.Platform.{Platform}
-use Rattle.plan.specs.declared.Flow.{Flow}
-use Rattle.plan.specs.declared.checks.Checked.the-variants.{Fault}
+use Rattle.plan_values.specs.declared.Platform.{Platform}
+use Rattle.plan_values.specs.declared.Flow.{Flow}
+use Rattle.plan_checks.specs.declared.Checked.the-variants.{Fault}
 use Rattle.plan.proofs.Order.{record-frame, fault-ends}
 
 cut : (s : List ℕ) (at count : ℕ) → length s - at < 3 → frameAt s at count ≡ Fault 1 at

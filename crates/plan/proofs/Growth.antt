@@ -10,11 +10,12 @@ use lib.ListN.{length, length-append, List·getD-append}
 use lib.Seq.{getD-append-seam}
 use lib.Dec.{eqb}
 use borrow.Author.Tests.{eqb-false}
-use Rattle.plan.specs.Values.{blankFlow}
-use Rattle.plan.specs.Checks.{idsOf, prioritiesOf, taken}
+use Rattle.plan_values.specs.Values.{blankFlow}
+use Rattle.plan.specs.Records.{idsOf, prioritiesOf}
+use Rattle.plan_checks.specs.Checks.{taken}
 use Rattle.plan.specs.Legal.{LegalFlow, flow, Distinct, Legal}
-use Rattle.plan.specs.declared.Platform.{Platform}
-use Rattle.plan.specs.declared.Flow.{Flow}
+use Rattle.plan_values.specs.declared.Platform.{Platform}
+use Rattle.plan_values.specs.declared.Flow.{Flow}
 use Rattle.plan.proofs.Fields.{neither}
 
 -- what a search that found nothing says of each flow, and the other way round

@@ -1,13 +1,8 @@
-mod Tags
-mod Searches
-mod Fits
-mod Rests
 pub mod Padding
 mod Columns
 pub mod Order
 pub mod Scan
 mod Turns
-mod Recording
 mod Fields
 mod Growth
 mod Listed

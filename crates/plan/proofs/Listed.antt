@@ -8,37 +8,28 @@ use lib.ListN.{length}
 use lib.Dec.{eqb}
 use borrow.Author.Tests.{ltb-false, eqb-false, leb-true}
 use Rattle.framing.specs.First.{_when_else_}
-use Rattle.framing.specs.Numbers.{bytesOf}
+use Rattle.framing_numbers.specs.Numbers.{bytesOf}
 use Rattle.framing.specs.Header.{tagAt}
-use Rattle.plan.specs.Table.{tagOf, fieldsOf, width, highestOf, refusalAbove}
-use Rattle.plan.specs.Values.{limitsAt}
-use Rattle.plan.specs.Checks.{misplaced, noRoom, headerAt, taggedAt, frameAt, fieldsFrom, clashAt, tailAt, restAt, _then_, bodyAt, recordAt}
+use Rattle.plan_table.specs.Table.{tagOf, fieldsOf, width, highestOf, refusalAbove}
+use Rattle.plan_checks.specs.Checks.{limitsAt}
+use Rattle.plan_checks.specs.Checks.{misplaced, noRoom, headerAt, taggedAt, frameAt, clashAt, tailAt, restAt}
+use Rattle.plan.specs.Records.{fieldsFrom, _then_, bodyAt, recordAt}
 use Rattle.plan.specs.Layout.{place}
-use Rattle.plan.specs.Refusals.{recordRefusals, refusalsOf, has, Listed, of-first, of-later, of-platform, of-flow, of-flow-65, of-end}
-use Rattle.plan.specs.declared.Platform.{Platform}
-use Rattle.plan.specs.declared.Flow.{Flow}
-use Rattle.plan.specs.declared.checks.Checked.{Checked}
-use Rattle.plan.specs.declared.checks.Checked.the-variants.{Fault, Passed}
-use Rattle.plan.specs.declared.table.Field.{Field}
-use Rattle.plan.specs.declared.table.Kind.{Kind}
-use Rattle.plan.specs.declared.table.Kind.the-variants.{PlatformRecord, FlowRecord, EndRecord}
-use Rattle.plan.specs.declared.table.Tag.{Tag}
-use Rattle.plan.specs.declared.table.Tag.the-variants.{Known, Unknown}
-use Rattle.plan.specs.declared.values.Limits.{Limits}
+use Rattle.plan_table.specs.Refusals.{recordRefusals, refusalsOf, has}
+use Rattle.plan.specs.Refusals.{Listed, of-first, of-later, of-platform, of-flow, of-flow-65, of-end}
+use Rattle.plan_values.specs.declared.Platform.{Platform}
+use Rattle.plan_values.specs.declared.Flow.{Flow}
+use Rattle.plan_checks.specs.declared.Checked.{Checked}
+use Rattle.plan_checks.specs.declared.Checked.the-variants.{Fault, Passed}
+use Rattle.plan_table.specs.declared.Field.{Field}
+use Rattle.plan_table.specs.declared.Kind.{Kind}
+use Rattle.plan_table.specs.declared.Kind.the-variants.{PlatformRecord, FlowRecord, EndRecord}
+use Rattle.plan_table.specs.declared.Tag.{Tag}
+use Rattle.plan_table.specs.declared.Tag.the-variants.{Known, Unknown}
+use Rattle.plan_checks.specs.declared.Limits.{Limits}
 use Rattle.plan.proofs.Order.{Framed, framed, flow-room, platform-first, others-later, first-only}
+use Rattle.plan_table.proofs.Numbers.{NumberedBy, numbered}
 use Rattle.plan.proofs.Scan.{sizeOf, filled}
-
--- the table of fields gives each the number that is listed at its place
-abbrev NumberedBy : List (ℕ × ℕ) → ℕ → List Field → Type 0
-NumberedBy lines offset [] = Unit {0}
-NumberedBy lines offset (f ∷ fs) =
-    ((has lines (f .3) offset ≡ true) × (has lines (refusalAbove (highestOf f) (f .3)) offset ≡ true))
-    × NumberedBy lines (offset + bytesOf (width f)) fs
-
-numbered : (kind : Kind) → NumberedBy (refusalsOf kind) 3 (fieldsOf kind)
-numbered PlatformRecord = ((refl, refl), ((refl, refl), ((refl, refl), ((refl, refl), ((refl, refl), ((refl, refl), tt))))))
-numbered FlowRecord = ((refl, refl), ((refl, refl), ((refl, refl), ((refl, refl), ((refl, refl), ((refl, refl), ((refl, refl), ((refl, refl), tt))))))))
-numbered EndRecord = tt
 
 one-of : {A : Type 0} (P : A → Type 0) (test : Bool) {x y : A} → P x → P y → P (x when test else y)
 unfolding _when_else_

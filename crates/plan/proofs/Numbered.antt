@@ -6,7 +6,8 @@ use mathlib.Core.List.{List, [], _∷_}
 use mathlib.Core.Logic.{_≢_}
 use lib.Dec.{eqb}
 use borrow.Author.Tests.{eqb-true}
-use Rattle.plan.specs.Refusals.{recordRefusals, platformRefusals, flowRefusals, endRefusals, isNumber, has, Listed, of-first, of-later, of-platform, of-flow, of-flow-65, of-end}
+use Rattle.plan_table.specs.Refusals.{recordRefusals, platformRefusals, flowRefusals, endRefusals, isNumber, has}
+use Rattle.plan.specs.Refusals.{Listed, of-first, of-later, of-platform, of-flow, of-flow-65, of-end}
 
 -- each line's number is one
 abbrev Numbers : List (ℕ × ℕ) → Type 0

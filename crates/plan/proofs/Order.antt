@@ -9,18 +9,19 @@ use lib.Dec.{eqb}
 use borrow.Author.Tests.{ltb-false, leb-false, eqb-true, eqb-false, not-false}
 use Rattle.framing.specs.First.{_when_else_}
 use Rattle.framing.specs.Header.{tagAt, lengthAt}
-use Rattle.plan.specs.Table.{tagOf, bodyLength}
-use Rattle.plan.specs.Values.{platformAt, flowAt}
-use Rattle.plan.specs.Checks.{isPlatform, misplaced, noRoom, headerAt, taggedAt, frameAt, fieldsAt, clashAt, tailAt, idsOf, prioritiesOf, restAt, _then_, bodyAt, recordAt}
+use Rattle.plan_table.specs.Table.{tagOf, bodyLength}
+use Rattle.plan_values.specs.Values.{platformAt, flowAt}
+use Rattle.plan_checks.specs.Checks.{isPlatform, misplaced, noRoom, headerAt, taggedAt, frameAt, clashAt, tailAt, restAt}
+use Rattle.plan.specs.Records.{fieldsAt, idsOf, prioritiesOf, _then_, bodyAt, recordAt}
 use Rattle.plan.specs.Reading.{accepted, refused, after, records}
-use Rattle.plan.specs.declared.Platform.{Platform}
-use Rattle.plan.specs.declared.Flow.{Flow}
-use Rattle.plan.specs.declared.checks.Checked.{Checked}
-use Rattle.plan.specs.declared.checks.Checked.the-variants.{Fault, Passed}
-use Rattle.plan.specs.declared.table.Kind.{Kind}
-use Rattle.plan.specs.declared.table.Kind.the-variants.{PlatformRecord, FlowRecord, EndRecord}
-use Rattle.plan.specs.declared.table.Tag.{Tag}
-use Rattle.plan.specs.declared.table.Tag.the-variants.{Known, Unknown}
+use Rattle.plan_values.specs.declared.Platform.{Platform}
+use Rattle.plan_values.specs.declared.Flow.{Flow}
+use Rattle.plan_checks.specs.declared.Checked.{Checked}
+use Rattle.plan_checks.specs.declared.Checked.the-variants.{Fault, Passed}
+use Rattle.plan_table.specs.declared.Kind.{Kind}
+use Rattle.plan_table.specs.declared.Kind.the-variants.{PlatformRecord, FlowRecord, EndRecord}
+use Rattle.plan_table.specs.declared.Tag.{Tag}
+use Rattle.plan_table.specs.declared.Tag.the-variants.{Known, Unknown}
 
 -- ---- checks that were passed
 pub no-fault : {number place : ℕ} {kind : Kind} → Fault number place ≡ Passed kind → ⊥

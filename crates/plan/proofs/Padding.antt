@@ -7,11 +7,11 @@ use mathlib.Core.List.{List, [], _∷_, _++_}
 use lib.ListN.{length, getD, take, set, replicate, length-append, length-replicate}
 use lib.Seq.{take-suc-set, length-take-le, set-at, append-snoc}
 use Rattle.plan.specs.Padded.{padded}
-use Rattle.plan.specs.Values.{blankFlow}
+use Rattle.plan_values.specs.Values.{blankFlow}
 use Rattle.plan.specs.Reading.{accepted}
-use Rattle.plan.specs.declared.Platform.{Platform}
-use Rattle.plan.specs.declared.Flow.{Flow}
-use Rattle.plan.specs.declared.Outcome.the-variants.{Accepted}
+use Rattle.plan_values.specs.declared.Platform.{Platform}
+use Rattle.plan_values.specs.declared.Flow.{Flow}
+use Rattle.framing.specs.declared.returned.Outcome.the-variants.{Accepted}
 
 module _ {A : Type 0} (blank : A) where
   -- one more

@@ -8,16 +8,17 @@ use mathlib.Core.List.{List, [], _∷_}
 use lib.ListN.{length, getD, drop, drop-of-length-le}
 use lib.Seq.{drop-cons}
 use Rattle.framing.specs.First.{_when_else_}
-use Rattle.framing.specs.Numbers.{bytesOf, numberAt}
-use Rattle.plan.specs.Table.{bodyLength, fieldsOf, fieldCount, width, refusalOf, noField}
-use Rattle.plan.specs.Values.{limitsAt}
-use Rattle.plan.specs.Checks.{outside, fieldsFrom, fieldsAt}
-use Rattle.plan.specs.declared.Platform.{Platform}
-use Rattle.plan.specs.declared.checks.Checked.the-variants.{Fault, Passed}
-use Rattle.plan.specs.declared.table.Field.{Field}
-use Rattle.plan.specs.declared.table.Kind.{Kind}
-use Rattle.plan.specs.declared.table.Kind.the-variants.{PlatformRecord, FlowRecord, EndRecord}
-use Rattle.plan.specs.declared.values.Limits.{Limits}
+use Rattle.framing_numbers.specs.Numbers.{bytesOf, numberAt}
+use Rattle.plan_table.specs.Table.{bodyLength, fieldsOf, fieldCount, width, refusalOf, noField}
+use Rattle.plan_checks.specs.Checks.{limitsAt}
+use Rattle.plan_checks.specs.Checks.{outside}
+use Rattle.plan.specs.Records.{fieldsFrom, fieldsAt}
+use Rattle.plan_values.specs.declared.Platform.{Platform}
+use Rattle.plan_checks.specs.declared.Checked.the-variants.{Fault, Passed}
+use Rattle.plan_table.specs.declared.Field.{Field}
+use Rattle.plan_table.specs.declared.Kind.{Kind}
+use Rattle.plan_table.specs.declared.Kind.the-variants.{PlatformRecord, FlowRecord, EndRecord}
+use Rattle.plan_checks.specs.declared.Limits.{Limits}
 
 -- the bytes of some fields
 abbrev pub sizeOf : List Field → ℕ

@@ -6,20 +6,22 @@ use mathlib.Core.Bool.{Bool, true, false}
 use mathlib.Core.List.{List, [], _∷_, _++_}
 use lib.ListN.{length, getD, take, set, replicate, length-set}
 use lib.Seq.{length-take-le}
-use Rattle.framing.specs.Numbers.{bytesOf, numberAt}
-use Rattle.plan.specs.Table.{bodyLength, fieldsOf, fieldCount, width, refusalOf, noField}
-use Rattle.plan.specs.Values.{platformAt, flowAt, limitsAt, blankPlatform, blankFlow}
-use Rattle.plan.specs.Checks.{frameAt, outside, restAt, recordAt}
+use Rattle.framing_numbers.specs.Numbers.{bytesOf, numberAt}
+use Rattle.plan_table.specs.Table.{bodyLength, fieldsOf, fieldCount, width, refusalOf, noField}
+use Rattle.plan_values.specs.Values.{platformAt, flowAt, blankPlatform, blankFlow}
+use Rattle.plan_checks.specs.Checks.{limitsAt}
+use Rattle.plan_checks.specs.Checks.{frameAt, outside, restAt}
+use Rattle.plan.specs.Records.{recordAt}
 use Rattle.plan.specs.Reading.{accepted, refused, records, readPlan}
 use Rattle.plan.specs.Padded.{padded}
-use Rattle.plan.specs.declared.Platform.{Platform}
-use Rattle.plan.specs.declared.Flow.{Flow}
-use Rattle.plan.specs.declared.checks.Checked.{Checked}
-use Rattle.plan.specs.declared.checks.Checked.the-variants.{Fault, Passed}
-use Rattle.plan.specs.declared.table.Field.{Field}
-use Rattle.plan.specs.declared.values.Limits.{Limits}
-use Rattle.plan.specs.declared.table.Kind.{Kind}
-use Rattle.plan.specs.declared.table.Kind.the-variants.{PlatformRecord, FlowRecord, EndRecord}
+use Rattle.plan_values.specs.declared.Platform.{Platform}
+use Rattle.plan_values.specs.declared.Flow.{Flow}
+use Rattle.plan_checks.specs.declared.Checked.{Checked}
+use Rattle.plan_checks.specs.declared.Checked.the-variants.{Fault, Passed}
+use Rattle.plan_table.specs.declared.Field.{Field}
+use Rattle.plan_checks.specs.declared.Limits.{Limits}
+use Rattle.plan_table.specs.declared.Kind.{Kind}
+use Rattle.plan_table.specs.declared.Kind.the-variants.{PlatformRecord, FlowRecord, EndRecord}
 use Rattle.plan.proofs.Order.{framed, flow-room, rest-kind, record-frame, record-field, record-rest, fault-ends, platform-leads, flow-leads, end-accepts}
 use Rattle.plan.proofs.Scan.{Scanning, scanning-none, field-stops, scanning-more, scanned, scanned-place}
 use Rattle.plan.proofs.Padding.{taken-more, padded-more}

@@ -4,10 +4,10 @@ use mathlib.Core.Path.{_≡_}
 use mathlib.Core.List.{List}
 use lib.ListN.{length}
 use Rattle.framing.specs.Header.{Headed}
-use Rattle.plan.specs.Values.{platformAt, flowAt}
+use Rattle.plan_values.specs.Values.{platformAt, flowAt}
 use Rattle.plan.specs.Legal.{flow}
-use Rattle.plan.specs.declared.Platform.{Platform}
-use Rattle.plan.specs.declared.Flow.{Flow}
+use Rattle.plan_values.specs.declared.Platform.{Platform}
+use Rattle.plan_values.specs.declared.Flow.{Flow}
 
 -- Flow k's record starts behind the platform record and k flow records.
 abbrev pub place : ℕ → ℕ

@@ -1,7 +1,5 @@
 -- Document 01, "The plan's bytes" and "What sends a plan back", as definitions that compute; Legal and Layout say it without a reader.
-pub mod Table
-pub mod Values
-pub mod Checks
+pub mod Records
 pub mod Padded
 pub mod Reading
 pub mod Legal

@@ -2,17 +2,17 @@
 use Prim.Native.Nat.{ℕ, zero, suc, _+_}
 use mathlib.Core.List.{List, [], _∷_, _++_}
 use lib.ListN.{length}
-use Rattle.plan.specs.Values.{platformAt, flowAt, blankPlatform, blankFlow}
+use Rattle.plan_values.specs.Values.{platformAt, flowAt, blankPlatform, blankFlow}
 use Rattle.plan.specs.Padded.{padded}
-use Rattle.plan.specs.Checks.{recordAt}
-use Rattle.plan.specs.declared.Platform.{Platform}
-use Rattle.plan.specs.declared.Flow.{Flow}
+use Rattle.plan.specs.Records.{recordAt}
+use Rattle.plan_values.specs.declared.Platform.{Platform}
+use Rattle.plan_values.specs.declared.Flow.{Flow}
 use Rattle.plan.specs.declared.Plan.{Plan}
 use Rattle.plan.specs.declared.Reading.{Reading}
-use Rattle.plan.specs.declared.Outcome.the-variants.{Accepted, Refused}
-use Rattle.plan.specs.declared.checks.Checked.{Checked}
-use Rattle.plan.specs.declared.checks.Checked.the-variants.{Fault, Passed}
-use Rattle.plan.specs.declared.table.Kind.the-variants.{PlatformRecord, FlowRecord, EndRecord}
+use Rattle.framing.specs.declared.returned.Outcome.the-variants.{Accepted, Refused}
+use Rattle.plan_checks.specs.declared.Checked.{Checked}
+use Rattle.plan_checks.specs.declared.Checked.the-variants.{Fault, Passed}
+use Rattle.plan_table.specs.declared.Kind.the-variants.{PlatformRecord, FlowRecord, EndRecord}
 
 abbrev pub planOf : Platform → List Flow → Plan
 planOf p fs = record { platform = p; flows = padded blankFlow fs; count = length fs }

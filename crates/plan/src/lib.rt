@@ -4,52 +4,26 @@ ghost use Prim.Native.Nat.{_≤_};
 ghost use lib.ListN.{take};
 ghost use Rattle.plan.specs.Reading.{accepted, refused, readPlan};
 ghost use Rattle.plan.specs.Padded.{padded};
-ghost use Rattle.plan.specs.Values.{blankFlow};
-use crate::checks::Checked;
-use crate::checks::check_frame;
-use crate::checks::check_rest;
-use crate::checks::is_outside;
-use crate::checks::refusal_of;
-use crate::table::Field;
-use crate::table::Kind;
-use crate::table::field_count;
-use crate::table::field_of;
-use crate::values::blank_flow;
-use crate::values::blank_platform;
-use crate::values::flow_at;
-use crate::values::limits_at;
-use crate::values::platform_at;
-use framing::numbers::bytes_of;
-use framing::numbers::number_at;
-
-mod checks;
-mod table;
-mod values;
-
-#[repr(C)]
-pub struct Platform {
-    pub columns: u8,
-    pub rows: u8,
-    pub link: u8,
-    pub routing: u8,
-    pub buffer: u8,
-    pub method: u8,
-}
-
-#[repr(C)]
-pub struct Flow {
-    pub id: u16,
-    pub priority: u16,
-    pub source: u8,
-    pub destination: u8,
-    pub flits: u16,
-    pub period: u32,
-    pub deadline: u32,
-    pub jitter: u32,
-}
-
-// Room for the flows of a plan.
-pub type Flows = [Flow; 64];
+ghost use Rattle.plan_values.specs.Values.{blankFlow};
+use framing::returned::Outcome;
+use framing_numbers::bytes_of;
+use framing_numbers::number_at;
+use plan_checks::Checked;
+use plan_checks::check_frame;
+use plan_checks::check_rest;
+use plan_checks::is_outside;
+use plan_checks::limits_at;
+use plan_checks::refusal_of;
+use plan_table::Field;
+use plan_table::Kind;
+use plan_table::field_count;
+use plan_table::field_of;
+use plan_values::Flows;
+use plan_values::Platform;
+use plan_values::blank_flow;
+use plan_values::blank_platform;
+use plan_values::flow_at;
+use plan_values::platform_at;
 
 // The flows are the first `count`; blanks, whose priority no flow has, stand behind them.
 #[repr(C)]
@@ -57,12 +31,6 @@ pub struct Plan {
     pub platform: Platform,
     pub flows: Flows,
     pub count: usize,
-}
-
-// What a reading came to: acceptance, or a refusal's number and place.
-pub enum Outcome {
-    Accepted,
-    Refused(u8, usize),
 }
 
 // A refused reading holds a blank plan.

@@ -4,10 +4,10 @@ use mathlib.Core.Path.{_≡_, refl, _∙_}
 use mathlib.Core.List.{List, []}
 use native.Mathlib.Omega.{arith}
 use lib.ListN.{length, length-append}
-use Rattle.framing.specs.Numbers.{oneAt, twoAt, fourAt}
+use Rattle.framing_numbers.specs.Numbers.{oneAt, twoAt, fourAt}
 use Rattle.framing.specs.Each.{each}
 use Rattle.framing.specs.Header.{endRecord}
-use Rattle.framing.specs.declared.numbers.Width.the-variants.{Two, Four}
+use Rattle.framing_numbers.specs.declared.Width.the-variants.{Two, Four}
 use Rattle.framing.proofs.BigEndian.{number-back}
 use Rattle.model.specs.declared.Answer.{Answer}
 use Rattle.model.specs.Verdicts.{verdictNumber, namedFlow, boundIn, roundsIn}

@@ -4,9 +4,10 @@ ghost use mathlib.Core.List.{_++_};
 ghost use Prim.Native.Nat.{_+_, _*_, _≤_};
 ghost use lib.ListN.{length, take, drop};
 ghost use Rattle.reply.specs.Reply.{replyBytes};
-use crate::record::put_record;
-use engine::Answers;
+use crate::record::record_bytes;
+use framing::copy::put_whole;
 use framing::header::put_end;
+use model::Answers;
 
 mod record;
 
@@ -18,7 +19,8 @@ pub fn put_reply(reply: &mut [u8], list: Answers, count: usize)
     let mut i: usize = 0;
     while i < count {
         let at = 16 * i;
-        put_record(&mut reply[at..at + 16], list[i]);
+        let bytes = record_bytes(list[i]);
+        put_whole(&mut reply[at..at + 16], &bytes);
         i += 1;
     }
     let at = 16 * count;

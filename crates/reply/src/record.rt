@@ -1,10 +1,8 @@
 // One flow's record.
 ghost use mathlib.Core.Path.{_≡_};
-ghost use lib.ListN.{length};
 ghost use Rattle.model.specs.Verdicts.{verdictNumber, namedFlow, boundIn, roundsIn};
 ghost use Rattle.reply.specs.Reply.{recordOf};
 use framing::big_endian::byte_of;
-use framing::copy::copy_in;
 use model::Answer;
 use model::Verdict;
 
@@ -44,7 +42,7 @@ fn parts_of(v: Verdict) -> Parts
     }
 }
 
-fn record_bytes(a: Answer) -> [u8; 16]
+pub(crate) fn record_bytes(a: Answer) -> [u8; 16]
     ensures { λ r. ⌜ r ≡ recordOf a ⌝ }
 {
     let v = a.verdict;
@@ -69,12 +67,4 @@ fn record_bytes(a: Answer) -> [u8; 16]
         byte_of(256, p.rounds),
         byte_of(1, p.rounds),
     ]
-}
-
-pub(crate) fn put_record(out: &mut [u8], a: Answer)
-    requires { ⌜ length (now out) ≡ 16 ⌝ }
-    ensures { λ _. ⌜ now (out .exit) ≡ recordOf a ⌝ }
-{
-    let bytes = record_bytes(a);
-    copy_in(out, 0, &bytes);
 }

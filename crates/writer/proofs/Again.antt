@@ -10,24 +10,24 @@ use lib.Seq.{take-all}
 use Rattle.framing.specs.BigEndian.{numberBytes}
 use Rattle.framing.specs.Each.{each}
 use Rattle.framing.specs.Header.{Headed, endRecord}
-use Rattle.framing.specs.Numbers.{bytesOf, numberAt, Bytes}
-use Rattle.framing.specs.declared.numbers.Width.the-variants.{Two}
+use Rattle.framing_numbers.specs.Numbers.{bytesOf, numberAt, Bytes}
+use Rattle.framing_numbers.specs.declared.Width.the-variants.{Two}
 use Rattle.framing.proofs.BigEndian.{bytes-back}
 use Rattle.framing.proofs.Each.{each-more}
 use Rattle.framing.proofs.Parts.{part, part-one, part-join}
 use Rattle.plan.specs.Layout.{place, Laid}
 use Rattle.plan.specs.Legal.{flow}
 use Rattle.plan.specs.Reading.{accepted, readPlan}
-use Rattle.plan.specs.Table.{tagByte, bodyLength, fieldsOf, width}
-use Rattle.plan.specs.Values.{blankFlow}
-use Rattle.plan.specs.declared.Platform.{Platform}
-use Rattle.plan.specs.declared.Flow.{Flow}
-use Rattle.plan.specs.declared.table.Field.{Field}
-use Rattle.plan.specs.declared.table.Kind.{Kind}
-use Rattle.plan.specs.declared.table.Kind.the-variants.{PlatformRecord, FlowRecord, EndRecord}
+use Rattle.plan_table.specs.Table.{tagByte, bodyLength, fieldsOf, width}
+use Rattle.plan_values.specs.Values.{blankFlow}
+use Rattle.plan_values.specs.declared.Platform.{Platform}
+use Rattle.plan_values.specs.declared.Flow.{Flow}
+use Rattle.plan_table.specs.declared.Field.{Field}
+use Rattle.plan_table.specs.declared.Kind.{Kind}
+use Rattle.plan_table.specs.declared.Kind.the-variants.{PlatformRecord, FlowRecord, EndRecord}
 use Rattle.plan.proofs.Exact.{accepted-exactly}
 use Rattle.plan.proofs.Scan.{sizeOf, filled}
-use Rattle.writer.specs.PlanBytes.{bodyBytes, recordBytes, platformBytes, flowBytes, planBytes}
+use Rattle.writer_bytes.specs.PlanBytes.{bodyBytes, recordBytes, platformBytes, flowBytes, planBytes}
 
 -- The values of some fields, from the one at this offset of a record on.
 abbrev valuesFrom : List ℕ → ℕ → ℕ → List Field → List ℕ

@@ -5,16 +5,17 @@ use mathlib.Core.List.{List, [], _∷_}
 use lib.ListN.{set, replicate}
 use Rattle.framing.specs.Each.{each}
 use Rattle.framing.specs.First.{_when_else_}
-use Rattle.framing.specs.Returned.{refusedWith, acceptedWith, roomFor, putInto}
+use Rattle.framing.specs.Returned.{refusedWith, acceptedWith, roomFor, putInto, returnedBy, leftBy}
 use Rattle.framing.specs.declared.returned.Returned.{Returned}
-use Rattle.plan.specs.Table.{tagOf}
-use Rattle.plan.specs.Checks.{headerAt, taggedAt, frameAt, fieldsFrom, clashAt, tailAt, restAt, _then_, bodyAt, recordAt}
+use Rattle.plan_table.specs.Table.{tagOf}
+use Rattle.plan_checks.specs.Checks.{headerAt, taggedAt, frameAt, clashAt, tailAt, restAt}
+use Rattle.plan.specs.Records.{fieldsFrom, _then_, bodyAt, recordAt}
 use Rattle.plan.specs.Reading.{accepted, refused, after, records, readPlan}
 use Rattle.plan.specs.PlanP.{P}
-use Rattle.plan.specs.declared.Platform.{Platform}
-use Rattle.plan.specs.declared.Flow.{Flow}
-use Rattle.writer.specs.PlanBytes.{platformBytes, flowBytes, planBytes}
-use Rattle.writer.specs.Written.{returnedBy, leftBy, returned, left}
+use Rattle.plan_values.specs.declared.Platform.{Platform}
+use Rattle.plan_values.specs.declared.Flow.{Flow}
+use Rattle.writer_bytes.specs.PlanBytes.{platformBytes, flowBytes, planBytes}
+use Rattle.writer.specs.Written.{returned, left}
 
 -- P's platform, with other flits of a buffer or another method.
 platform : ℕ → ℕ → Platform

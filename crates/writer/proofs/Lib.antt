@@ -1,4 +1,3 @@
-mod Putting
 pub mod Longer
 mod Returning
 pub mod ReadBack

@@ -7,22 +7,22 @@ use lib.ListN.{length, length-append, List·getD-append}
 use lib.Seq.{getD-append-add}
 use Rattle.framing.specs.Each.{each}
 use Rattle.framing.specs.Header.{Headed, endRecord}
-use Rattle.framing.specs.Numbers.{oneAt}
+use Rattle.framing_numbers.specs.Numbers.{oneAt}
 use Rattle.framing.proofs.Each.{each-append}
 use Rattle.framing.proofs.Stands.{Stands, header}
 use Rattle.plan.specs.Layout.{place}
 use Rattle.plan.specs.Reading.{accepted, refused, readPlan}
-use Rattle.plan.specs.declared.Platform.{Platform}
-use Rattle.plan.specs.declared.Flow.{Flow}
+use Rattle.plan_values.specs.declared.Platform.{Platform}
+use Rattle.plan_values.specs.declared.Flow.{Flow}
 use Rattle.plan.specs.declared.Reading.{Reading}
-use Rattle.plan.specs.declared.Outcome.{Outcome}
-use Rattle.plan.specs.declared.Outcome.the-variants.{Accepted, Refused}
+use Rattle.framing.specs.declared.returned.Outcome.{Outcome}
+use Rattle.framing.specs.declared.returned.Outcome.the-variants.{Accepted, Refused}
 use Rattle.plan.proofs.Alike.{Alike, same, arrived, alike}
 use Rattle.plan.proofs.Exact.{accepted-plan, size}
 use Rattle.plan.proofs.Frames.{end-passes, one-too-many}
 use Rattle.plan.proofs.Order.{fault-ends, end-accepts}
-use Rattle.writer.specs.PlanBytes.{platformBytes, flowBytes, planBytes}
-use Rattle.writer.proofs.Putting.{length-platform, length-flow, length-flows}
+use Rattle.writer_bytes.specs.PlanBytes.{platformBytes, flowBytes, planBytes}
+use Rattle.writer_bytes.proofs.Putting.{length-platform, length-flow, length-flows}
 
 module _ (p : Platform) (fs : List Flow) (many : length fs ≡ 64) where
   -- What stands in front of the 65th record.

@@ -9,22 +9,23 @@ use lib.ListN.{length, List·getD-append}
 use lib.Seq.{getD-append-add, ext-getD}
 use Rattle.framing.specs.Each.{each}
 use Rattle.framing.specs.Header.{endRecord}
-use Rattle.framing.specs.Numbers.{oneAt}
-use Rattle.framing.specs.declared.numbers.Width.the-variants.{Two, Four}
+use Rattle.framing_numbers.specs.Numbers.{oneAt}
+use Rattle.framing_numbers.specs.declared.Width.the-variants.{Two, Four}
 use Rattle.framing.proofs.BigEndian.{number-back}
 use Rattle.framing.proofs.Each.{each-at}
 use Rattle.framing.proofs.Stands.{Stands, two, four, header}
 use Rattle.plan.specs.Layout.{place, Laid}
 use Rattle.plan.specs.Legal.{LegalPlatform, LegalFlow, Legal, flow}
 use Rattle.plan.specs.Reading.{accepted, readPlan}
-use Rattle.plan.specs.Table.{platformFields, flowFields}
-use Rattle.plan.specs.Values.{platformAt, flowAt, blankFlow}
-use Rattle.plan.specs.declared.Platform.{Platform}
-use Rattle.plan.specs.declared.Flow.{Flow}
-use Rattle.plan.specs.declared.Outcome.the-variants.{Accepted}
+use Rattle.plan_table.specs.Table.{platformFields, flowFields}
+use Rattle.plan_values.specs.Values.{platformAt, flowAt, blankFlow}
+use Rattle.plan_values.specs.declared.Platform.{Platform}
+use Rattle.plan_values.specs.declared.Flow.{Flow}
+use Rattle.framing.specs.declared.returned.Outcome.the-variants.{Accepted}
 use Rattle.plan.proofs.Exact.{accepted-exactly, accepted-plan}
-use Rattle.writer.specs.PlanBytes.{platformValues, flowValues, platformBytes, flowBytes, planBytes, Fits, FitsPlan}
-use Rattle.writer.proofs.Putting.{length-platform, length-flow, length-flows, length-plan}
+use Rattle.writer_bytes.specs.PlanBytes.{platformValues, flowValues, platformBytes, flowBytes, planBytes}
+use Rattle.writer.specs.Fits.{Fits, FitsPlan}
+use Rattle.writer_bytes.proofs.Putting.{length-platform, length-flow, length-flows, length-plan}
 
 -- A record that stands within other bytes has the same values there.
 platform-stands : {s : List ℕ} {b : ℕ} {t : List ℕ} → Stands s b t 9 → platformAt s b ≡ platformAt t 0

@@ -9,16 +9,16 @@ use lib.ListN.{length, take, drop, replicate}
 use lib.Seq.{take-all, take-at, length-take-le}
 use Rattle.framing.specs.Returned.{refusedWith, acceptedWith}
 use Rattle.framing.specs.declared.returned.Returned.{Returned}
-use Rattle.framing.proofs.Rooms.{too-short, room-enough}
+use Rattle.framing.proofs.Rooms.{handed-on, too-short, room-enough}
 use Rattle.plan.specs.Reading.{readPlan}
-use Rattle.plan.specs.Values.{blankFlow}
-use Rattle.plan.specs.declared.Flow.{Flow}
-use Rattle.plan.specs.declared.Platform.{Platform}
+use Rattle.plan_values.specs.Values.{blankFlow}
+use Rattle.plan_values.specs.declared.Flow.{Flow}
+use Rattle.plan_values.specs.declared.Platform.{Platform}
 use Rattle.plan.specs.declared.Reading.{Reading}
-use Rattle.plan.specs.declared.Outcome.the-variants.{Accepted, Refused}
-use Rattle.writer.specs.PlanBytes.{planBytes}
-use Rattle.writer.specs.Written.{listed, returnedBy, leftBy, returned, left}
-use Rattle.writer.proofs.Putting.{length-plan}
+use Rattle.framing.specs.declared.returned.Outcome.the-variants.{Accepted, Refused}
+use Rattle.writer_bytes.specs.PlanBytes.{planBytes}
+use Rattle.writer.specs.Written.{listed, returned, left}
+use Rattle.writer_bytes.proofs.Putting.{length-plan}
 use Rattle.writer.proofs.Longer.{refused-alike, sixty-fifth}
 
 -- What the contract says of the result and of the bytes left in the buffer.
@@ -47,8 +47,7 @@ module _ (p : Platform) (flows : List Flow) (count : ℕ) (held : List ℕ) (lon
 
   -- A refusal by the bytes as they would have been written.
   refused-written : {number place : ℕ} → readPlan (planBytes p (listed flows count)) .outcome ≡ Refused number place → Written p (listed flows count) held (refusedWith number place) held
-  unfolding returnedBy leftBy
-  refused-written o = rw o (refl, refl)
+  refused-written o = handed-on (length (planBytes p (listed flows count))) (planBytes p (listed flows count)) held o
 
   -- Up to 64 flows are all kept.
   module _ (h : count ≤ 64) where
@@ -62,14 +61,12 @@ module _ (p : Platform) (flows : List Flow) (count : ℕ) (held : List ℕ) (lon
     needed = ap length (sym all-kept) ∙ size
 
     pub written-short : r .outcome ≡ Accepted → length held < 12 + 23 * kept → Written p (listed flows count) held (refusedWith 11 0) held
-    unfolding returnedBy leftBy
-    written-short o l = rw (sym kept-outcome ∙ o) (too-short (length (planBytes p (listed flows count))) (planBytes p (listed flows count)) held (omega (arith, needed)))
+    written-short o l = too-short (length (planBytes p (listed flows count))) (planBytes p (listed flows count)) held (sym kept-outcome ∙ o) (omega (arith, needed))
 
     pub written-whole : r .outcome ≡ Accepted → 12 + 23 * kept ≤ length held → {is : List ℕ} → is ≡ planBytes p (take kept flows) ++ drop (12 + 23 * kept) held → Written p (listed flows count) held (acceptedWith (12 + 23 * kept)) is
-    unfolding returnedBy leftBy
     written-whole o l {is} w =
-        let (number, all) = room-enough (length (planBytes p (listed flows count))) (planBytes p (listed flows count)) held (omega (arith, needed)) in
-        rw (sym kept-outcome ∙ o) (ap acceptedWith (sym needed) ∙ number, w ∙ (λ i. all-kept i ++ drop (sym needed i) held) ∙ all)
+        let (number, all) = room-enough (length (planBytes p (listed flows count))) (planBytes p (listed flows count)) held (sym kept-outcome ∙ o) (omega (arith, needed)) in
+        (ap acceptedWith (sym needed) ∙ number, w ∙ (λ i. all-kept i ++ drop (sym needed i) held) ∙ all)
 
   -- Of more, the first 64 are.
   module _ (h : 64 < count) where

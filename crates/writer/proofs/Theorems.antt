@@ -8,22 +8,23 @@ use native.Mathlib.Decide.{decLt}
 use native.Mathlib.Omega.{arith}
 use lib.ListN.{length, take, drop}
 use lib.Seq.{take-at}
-use Rattle.framing.specs.Numbers.{Bytes}
+use Rattle.framing_numbers.specs.Numbers.{Bytes}
 use Rattle.framing.specs.Returned.{refusedWith, acceptedWith}
 use Rattle.framing.specs.declared.returned.Returned.{Returned}
-use Rattle.framing.proofs.Rooms.{too-short, room-enough}
+use Rattle.framing.proofs.Rooms.{handed-on, too-short, room-enough}
 use Rattle.plan.specs.Legal.{Legal}
 use Rattle.plan.specs.Reading.{accepted, refused, readPlan}
-use Rattle.plan.specs.declared.Platform.{Platform}
-use Rattle.plan.specs.declared.Flow.{Flow}
-use Rattle.plan.specs.declared.Outcome.{Outcome}
-use Rattle.plan.specs.declared.Outcome.the-variants.{Accepted, Refused}
+use Rattle.plan_values.specs.declared.Platform.{Platform}
+use Rattle.plan_values.specs.declared.Flow.{Flow}
+use Rattle.framing.specs.declared.returned.Outcome.{Outcome}
+use Rattle.framing.specs.declared.returned.Outcome.the-variants.{Accepted, Refused}
 use Rattle.plan.specs.declared.Reading.{Reading}
 use Rattle.plan.proofs.Answered.{Lawful, accepts, refuses, answered}
 use Rattle.plan.proofs.Numbered.{never}
-use Rattle.writer.specs.PlanBytes.{planBytes, FitsPlan}
-use Rattle.writer.specs.Written.{returnedBy, leftBy, returned, left}
-use Rattle.writer.proofs.Putting.{length-plan}
+use Rattle.writer_bytes.specs.PlanBytes.{planBytes}
+use Rattle.writer.specs.Fits.{FitsPlan}
+use Rattle.writer.specs.Written.{returned, left}
+use Rattle.writer_bytes.proofs.Putting.{length-plan}
 use Rattle.writer.proofs.ReadBack.{given-back, written-exactly}
 use Rattle.writer.proofs.Again.{same-bytes}
 
@@ -47,16 +48,14 @@ module _ (p : Platform) (fs : List Flow) (held : List ℕ) where
     whole : readPlan bytes .outcome ≡ Accepted → length bytes ≤ length held → Came (acceptedWith (length bytes)) (bytes ++ drop (length bytes) held)
 
   in-room : readPlan bytes .outcome ≡ Accepted → Dec (length held < length bytes) → Came (returned p fs (length held)) (left p fs held)
-  unfolding returnedBy leftBy
-  in-room e (yes h) = let (a, b) = too-short (length bytes) bytes held h in rw (e, ← a, ← b) no-room
+  in-room e (yes h) = let (a, b) = too-short (length bytes) bytes held e h in rw (← a, ← b) no-room
   in-room e (no n) =
       let h : length bytes ≤ length held = omega arith in
-      let (a, b) = room-enough (length bytes) bytes held h in
-      rw (e, ← a, ← b) (whole e h)
+      let (a, b) = room-enough (length bytes) bytes held e h in
+      rw (← a, ← b) (whole e h)
 
   by-outcome : (o : Outcome) → readPlan bytes .outcome ≡ o → Came (returned p fs (length held)) (left p fs held)
-  unfolding returnedBy leftBy
-  by-outcome (Refused number place) e = rw e (sent-back number place (not-accepted bytes e))
+  by-outcome (Refused number place) e = let (a, b) = handed-on (length bytes) bytes held e in rw (← a, ← b) (sent-back number place (not-accepted bytes e))
   by-outcome Accepted e = in-room e (decLt (length held) (length bytes))
 
   came : Came (returned p fs (length held)) (left p fs held)
@@ -84,20 +83,18 @@ module _ (p : Platform) (fs : List Flow) (held : List ℕ) where
 
   -- "writing what was read from any accepted plan gives the same bytes": all of them, so that method 0 stays 0.
   pub read-written : (s : List ℕ) → Bytes s → readPlan s ≡ accepted p fs → length s ≤ length held → (returned p fs (length held) ≡ acceptedWith (length s)) × (left p fs held ≡ s ++ drop (length s) held)
-  unfolding returnedBy leftBy accepted
+  unfolding accepted
   read-written s is e h =
       let same = same-bytes is p fs e in
-      let o : readPlan s .outcome ≡ Accepted = ap (λ (r : Reading). r .outcome) e in
-      let (a, b) = room-enough (length s) s held h in
-      rw (same, o) (sym a, sym b)
+      let (a, b) = room-enough (length s) s held (ap (λ (r : Reading). r .outcome) e) h in
+      rw same (sym a, sym b)
 
   -- A plan is written exactly if its values are allowed and the buffer has room for it.
   pub legal-written : Legal p fs → 12 + 23 * length fs ≤ length held → returned p fs (length held) ≡ acceptedWith (12 + 23 * length fs)
-  unfolding returnedBy leftBy accepted
+  unfolding accepted
   legal-written w h =
-      let o : readPlan bytes .outcome ≡ Accepted = ap (λ (r : Reading). r .outcome) (written-exactly p fs .1 w) in
       let l = length-plan p fs in
-      rw o (sym (room-enough (length bytes) bytes held (omega arith) .0) ∙ ap acceptedWith l)
+      sym (room-enough (length bytes) bytes held (ap (λ (r : Reading). r .outcome) (written-exactly p fs .1 w)) (omega arith) .0) ∙ ap acceptedWith l
 
   pub written-legal : FitsPlan p fs → returned p fs (length held) .number ≡ 0 → Legal p fs × (12 + 23 * length fs ≤ length held)
   written-legal w = go came

@@ -1,4 +1,4 @@
--- The bytes of a plan, as they are written.
-pub mod PlanBytes
+-- What each value must fit.
+pub mod Fits
 -- What `write` returns and leaves.
 pub mod Written

@@ -1,21 +1,15 @@
 // The plan writer for the depot tool: from a plan by value to its bytes in a lent buffer.
 ghost use mathlib.Core.Path.{_≡_};
-ghost use mathlib.Core.List.{_++_};
-ghost use Prim.Native.Nat.{_+_, _*_, _≤_, min};
-ghost use lib.ListN.{length, take, drop};
-ghost use Rattle.writer.specs.PlanBytes.{planBytes};
+ghost use Prim.Native.Nat.{min};
+ghost use lib.ListN.{length};
 ghost use Rattle.writer.specs.Written.{listed, returned, left};
-use crate::records::put_flow;
-use crate::records::put_platform;
-use framing::header::put_end;
+use framing::returned::Outcome;
 use framing::returned::Returned;
-use plan::Flows;
-use plan::Outcome;
 use plan::Plan;
-use plan::Platform;
 use plan::read;
-
-mod records;
+use plan_values::Flows;
+use plan_values::Platform;
+use writer_bytes::put_plan;
 
 fn at_most_64(count: usize) -> usize
     ensures { λ r. ⌜ r ≡ min count 64 ⌝ }
@@ -24,22 +18,6 @@ fn at_most_64(count: usize) -> usize
         return count;
     }
     64
-}
-
-// Each record is written into its own part of the buffer, which is lent on; further bytes stay.
-fn put_plan(out: &mut [u8], platform: Platform, flows: Flows, count: usize)
-    requires { ⌜ (count ≤ 64) × (12 + 23 * count ≤ length (now out)) ⌝ }
-    ensures { λ _. ⌜ now (out .exit) ≡ planBytes platform (take count flows) ++ drop (12 + 23 * count) (now (out .entry)) ⌝ }
-{
-    put_platform(&mut out[0..9], platform);
-    let mut i: usize = 0;
-    while i < count {
-        let at = 9 + 23 * i;
-        put_flow(&mut out[at..at + 23], flows[i]);
-        i += 1;
-    }
-    let at = 9 + 23 * count;
-    put_end(&mut out[at..at + 3]);
 }
 
 // Writes the plan of these flows, the first `count`, if the reader accepts its bytes and the buffer has room for them: they

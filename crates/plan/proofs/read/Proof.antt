@@ -4,7 +4,7 @@ use native.Mathlib.Omega.{arith}
 use mathlib.Core.Path.{sym, ap, _∙_}
 use mathlib.Core.Logic.{⊎-elim}
 use lib.ListN.{length, replicate}
-use Rattle.plan.specs.Table.{bodyLength}
+use Rattle.plan_table.specs.Table.{bodyLength}
 use Rattle.plan.proofs.Order.{framed, flow-room}
 use Rattle.plan.proofs.Columns.{column-taken}
 use Rattle.plan.proofs.Turns.{Sofar, sofar-none, frame-refuses, Inside, inside-none, field-refuses, inside-more, rest-refuses, end-accepted, platform-taken, flow-taken}

@@ -1,5 +1,6 @@
 -- `reply::put_reply` meets its contract.
 use Prim.Native.Nat.{_-_}
+use mathlib.Core.Path.{_∙_}
 use native.Mathlib.Omega.{arith}
 use borrow.Author.Needs.{needs}
 use Rattle.reply.proofs.Writing.{Replying, replying-none, replying-more, replying-all}
@@ -18,26 +19,32 @@ loop-holds c = replying-none _ _ _ (search needs)
 mul-at : tie.Need-mul-at Inv-loop μ-loop
 mul-at c = search needs
 
-add-put-record : tie.Need-add-put-record Inv-loop μ-loop
-add-put-record c = search needs
+mul-record-bytes : tie.Need-mul-record-bytes Inv-loop μ-loop
+mul-record-bytes c = search needs
 
-sub-put-record : tie.Need-sub-put-record Inv-loop μ-loop
-sub-put-record c = search needs
+array-copy-out-record-bytes : tie.Need-array-copy-out-record-bytes Inv-loop μ-loop
+array-copy-out-record-bytes c = search needs
 
-part-put-record-start : tie.Need-part-put-record-start Inv-loop μ-loop
-part-put-record-start c = search needs
+record-bytes-requires : tie.Need-record-bytes-requires Inv-loop μ-loop
+record-bytes-requires c κs = search needs
 
-part-put-record-end : tie.Need-part-put-record-end Inv-loop μ-loop
-part-put-record-end c = omega arith
+add-put-whole : tie.Need-add-put-whole Inv-loop μ-loop
+add-put-whole c = search needs
 
-mul-put-record : tie.Need-mul-put-record Inv-loop μ-loop
-mul-put-record c = search needs
+sub-put-whole : tie.Need-sub-put-whole Inv-loop μ-loop
+sub-put-whole c = search needs
 
-array-copy-out-put-record : tie.Need-array-copy-out-put-record Inv-loop μ-loop
-array-copy-out-put-record c = search needs
+part-put-whole-start : tie.Need-part-put-whole-start Inv-loop μ-loop
+part-put-whole-start c = search needs
 
-put-record-requires : tie.Need-put-record-requires Inv-loop μ-loop
-put-record-requires c κs = search needs
+part-put-whole-end : tie.Need-part-put-whole-end Inv-loop μ-loop
+part-put-whole-end c = omega arith
+
+slice-aggregate-put-whole : tie.Need-slice-aggregate-put-whole Inv-loop μ-loop
+slice-aggregate-put-whole c = search needs
+
+put-whole-requires : tie.Need-put-whole-requires Inv-loop μ-loop
+put-whole-requires c κs = search needs
 
 add-i : tie.Need-add-i Inv-loop μ-loop
 add-i c = search needs
@@ -46,7 +53,7 @@ loop-less : tie.Need-loop-less Inv-loop μ-loop
 loop-less c = search needs
 
 loop-again : tie.Need-loop-again Inv-loop μ-loop
-loop-again c = replying-more (c .before .before .before .before .before .before .loop .inv) (search needs) _ (c .before .before .put-record .ensures) (search needs)
+loop-again c = replying-more (c .before .before .before .before .before .before .before .before .loop .inv) (search needs) _ (c .before .before .put-whole .ensures ∙ c .before .before .before .before .before .record-bytes .ensures) (search needs)
 
 mul-at-2 : tie.Need-mul-at-2 Inv-loop μ-loop
 mul-at-2 c = search needs
@@ -80,13 +87,15 @@ put-reply-spec =
     μ-loop
     loop-holds
     mul-at
-    add-put-record
-    sub-put-record
-    part-put-record-start
-    part-put-record-end
-    mul-put-record
-    array-copy-out-put-record
-    put-record-requires
+    mul-record-bytes
+    array-copy-out-record-bytes
+    record-bytes-requires
+    add-put-whole
+    sub-put-whole
+    part-put-whole-start
+    part-put-whole-end
+    slice-aggregate-put-whole
+    put-whole-requires
     add-i
     loop-less
     loop-again

@@ -1,0 +1,4 @@
+pub mod Scenes
+pub mod Placing
+pub mod Places
+pub mod Searching

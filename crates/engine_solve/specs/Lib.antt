@@ -1,0 +1,2 @@
+-- What a flow's recurrence is solved from.
+pub mod Solving

@@ -1,0 +1,2 @@
+-- What the engine adds up for a pair of flows, by the cells of its columns.
+pub mod Loads

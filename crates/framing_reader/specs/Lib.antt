@@ -1,0 +1,2 @@
+-- The reader, whose place travels with the bytes.
+pub mod Reader

@@ -1,0 +1,2 @@
+-- What two routes share of a stretch of their links.
+pub mod Stretches

@@ -1,0 +1,4 @@
+mod Framing
+mod Searches
+mod Fits
+mod Rests

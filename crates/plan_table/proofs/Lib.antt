@@ -1,0 +1,3 @@
+pub mod Tags
+mod Fits
+pub mod Numbers

@@ -1,0 +1,2 @@
+mod Behind
+mod Made

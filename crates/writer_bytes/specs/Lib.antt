@@ -1,0 +1,2 @@
+-- The bytes of a plan, as they are written.
+pub mod PlanBytes
