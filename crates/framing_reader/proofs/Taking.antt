@@ -19,7 +19,7 @@ use ghost.Atoms.{Atoms, sem}
 use contract.Monad.{fact}
 use types.Kit.{Given, ‵, raw, _⊛_, ⋆, _$_, _∵_, !, qed, by, move, drop, use1, split, fsplit, fjoin, suffices, frame, done}
 use types.Part.{whole, sub, look-in}
-use types.Run.{look, init, forget, stop, fld, from, load, of-opd, and-then, no-more, assigns, land, returns, enter, alloc1, alloc0, params1, pass1, pass0, free1, free0}
+use types.Run.{look, init, stop, fld, from, load, of-opd, and-then, no-more, assigns, land, returns, enter, alloc1, alloc0, params1, pass1, pass0}
 use sound.WpLaws.{FmC, fmOf, WpFn-mono}
 use denote.RattleType.{owns}
 use denote.Laws.{Is}
@@ -37,6 +37,7 @@ use denote.Triple.Walked.{says, needs, Stays, stay-none, walkOf, goes-none, Walk
 use denote.Exit.{yes}
 use denote.Triple.Clauses.{Ended, Clauses, closing, ensured, lasts}
 use Rattle.framing_reader.specs.declared.Reader.{Reader}
+use Rattle.framing_reader.proofs.Leaving.{none, cell, leaves}
 use Rattle.framing_reader.proofs.Held.{ReaderT, seen, Bytes, Reading, Token, alone, shut, opened, calls-for}
 use Rattle.framing_reader.proofs.Reader as T
 use Rattle.framing_reader.proofs.Reader.Laws as T′
@@ -128,8 +129,7 @@ module _ (w : Width) (size : ℕ) (number : List ℕ → ℕ → ℕ) {M : Type 
         calls-for ! fm κ q (d .plan) C₀ known to (UInt w) ensures found (vint w found) asked (λ u. id⊢ 𝓤 _) said (λ u is. alone (uint-tells w found _ is)) (and-then ! (load ! (from ! (stop !)) (look ! 4 refl)) (and-then ! (load ! (from ! (stop !)) (look ! 2 refl)) (no-more !))) (λ is.
         -- [the token; what the bytes own; _3; …; _2; …; _1; …; room for _0; …]
         land ! (from ! (stop !)) (init ! 8 refl (uint-lawful 𝓤 H A W w .typed found _ is .0)) $
-        returns ! (look ! 8 refl) $ forget ! 2 refl $ forget ! 4 refl $ forget ! 6 refl $ forget ! 8 refl $
-        move ! (8 ∷ 9 ∷ []) $ free1 ! $ move ! (6 ∷ 7 ∷ []) $ free1 ! $ move ! (4 ∷ 5 ∷ []) $ free1 ! $ move ! (2 ∷ 3 ∷ []) $ free1 ! $ free0 ! $ by ! (exits is))))))
+        returns ! (look ! 8 refl) $ leaves ! (cell (cell (cell (cell none)))) $ by ! (exits is))))))
 
 module _ (w : Width) (size : ℕ) (number : List ℕ → ℕ → ℕ) {M : Type 1} (𝓤 : URA M) (H : Heap 𝓤) (A : Atoms 𝓤) (W : Given 𝓤 H A) (callee : Name) where
   walks : (C : Calls 𝓤 H) (Λ : Loops 𝓤 H) → FmC 𝓤 H (W .laws) C → Triple 𝓤 (C callee) (Callee w size number 𝓤 H A) → Walks 𝓤 H A (taking w) (stayed w) (WpFn 𝓤 H C Λ (thin w callee)) (taken w size number 𝓤 H A)

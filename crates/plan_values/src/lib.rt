@@ -2,7 +2,6 @@
 ghost use mathlib.Core.Path.{_≡_};
 ghost use Prim.Native.Nat.{_+_, _≤_};
 ghost use lib.ListN.{length};
-ghost use Rattle.framing_numbers.specs.Numbers.{oneAt, twoAt, fourAt};
 ghost use Rattle.plan_values.specs.Values.{platformAt, flowAt, blankPlatform, blankFlow};
 use framing_reader::four;
 use framing_reader::one;
@@ -35,40 +34,24 @@ pub struct Flow {
 // Room for the flows of a plan.
 pub type Flows = [Flow; 64];
 
-// The number some bytes behind a place: a reader starts at the place and moves on past them.
-fn one_behind(bytes: &[u8], at: usize, skip: usize) -> u8
-    requires { ⌜ at + skip + 1 ≤ length (now bytes) ⌝ }
-    ensures { λ r. ⌜ r ≡ oneAt (now (bytes .entry)) (at + skip) ⌝ }
-{
-    one(past(reader_at(bytes, at), skip))
-}
-
-fn two_behind(bytes: &[u8], at: usize, skip: usize) -> u16
-    requires { ⌜ at + skip + 2 ≤ length (now bytes) ⌝ }
-    ensures { λ r. ⌜ r ≡ twoAt (now (bytes .entry)) (at + skip) ⌝ }
-{
-    two(past(reader_at(bytes, at), skip))
-}
-
-fn four_behind(bytes: &[u8], at: usize, skip: usize) -> u32
-    requires { ⌜ at + skip + 4 ≤ length (now bytes) ⌝ }
-    ensures { λ r. ⌜ r ≡ fourAt (now (bytes .entry)) (at + skip) ⌝ }
-{
-    four(past(reader_at(bytes, at), skip))
-}
-
-// The values of a record, each behind its tag, its length and the fields before it.
+// The values of a record, by a reader that starts at its tag: each name is the reader at that field.
 pub fn platform_at(bytes: &[u8], at: usize) -> Platform
     requires { ⌜ at + 9 ≤ length (now bytes) ⌝ }
     ensures { λ r. ⌜ r ≡ platformAt (now (bytes .entry)) at ⌝ }
 {
+    let columns = past(reader_at(bytes, at), 3);
+    let rows = past(columns, 1);
+    let link = past(rows, 1);
+    let routing = past(link, 1);
+    let buffer = past(routing, 1);
+    let method = past(buffer, 1);
     Platform {
-        columns: one_behind(bytes, at, 3),
-        rows: one_behind(bytes, at, 4),
-        link: one_behind(bytes, at, 5),
-        routing: one_behind(bytes, at, 6),
-        buffer: one_behind(bytes, at, 7),
-        method: one_behind(bytes, at, 8),
+        columns: one(columns),
+        rows: one(rows),
+        link: one(link),
+        routing: one(routing),
+        buffer: one(buffer),
+        method: one(method),
     }
 }
 
@@ -76,15 +59,23 @@ pub fn flow_at(bytes: &[u8], at: usize) -> Flow
     requires { ⌜ at + 23 ≤ length (now bytes) ⌝ }
     ensures { λ r. ⌜ r ≡ flowAt (now (bytes .entry)) at ⌝ }
 {
+    let id = past(reader_at(bytes, at), 3);
+    let priority = past(id, 2);
+    let source = past(priority, 2);
+    let destination = past(source, 1);
+    let flits = past(destination, 1);
+    let period = past(flits, 2);
+    let deadline = past(period, 4);
+    let jitter = past(deadline, 4);
     Flow {
-        id: two_behind(bytes, at, 3),
-        priority: two_behind(bytes, at, 5),
-        source: one_behind(bytes, at, 7),
-        destination: one_behind(bytes, at, 8),
-        flits: two_behind(bytes, at, 9),
-        period: four_behind(bytes, at, 11),
-        deadline: four_behind(bytes, at, 15),
-        jitter: four_behind(bytes, at, 19),
+        id: two(id),
+        priority: two(priority),
+        source: one(source),
+        destination: one(destination),
+        flits: two(flits),
+        period: four(period),
+        deadline: four(deadline),
+        jitter: four(jitter),
     }
 }
 
