@@ -1,8 +1,9 @@
 #!/usr/bin/env python3
 """Holds the documents to the tree: what they name in backticks exists, and what must be named is.
 
-Paths, `crate::function`, `Module.definition` and the names of must-fail edits are looked up. docs/PROMISES.md has a row for every
-public function of the libraries, and every edit stands in some document. Decisions are numbered without a gap.
+Paths, `crate::function`, `Module.definition` and the names of must-fail edits are looked up. docs/PROMISES.md has a heading for every
+library and a row for every public function of it, every edit stands in some document, and docs/WRONG-PROGRAMS.md names each behind its
+crate. Decisions are numbered without a gap.
 """
 import pathlib
 import re
@@ -11,21 +12,50 @@ import sys
 ROOT = pathlib.Path(__file__).resolve().parent.parent
 DOCUMENTS = [ROOT / "README.md", *sorted((ROOT / "docs").rglob("*.md")), ROOT / "plans" / "README.md"]
 CRATES = [line.split(":")[0] for line in (ROOT / "crates.txt").read_text().splitlines() if line.strip()]
+LIBRARIES = [crate for crate in CRATES if (ROOT / "crates" / crate / "src" / "lib.rt").exists()]
 TOP = {path.name for path in ROOT.iterdir()} - {"target"}
 TOKEN = re.compile(r"`([^`\n]+)`")
 
 
-def source(crate):
-    return "\n".join(path.read_text() for path in sorted((ROOT / "crates" / crate / "src").glob("*.rt")))
+def files_of(crate):
+    """The code of each file of a crate, without comments."""
+    return {path.stem: re.sub(r"//.*", "", path.read_text()) for path in sorted((ROOT / "crates" / crate / "src").glob("*.rt"))}
 
 
-SOURCES = {crate: source(crate) for crate in CRATES}
+FILES = {crate: files_of(crate) for crate in CRATES}
 EDITS = {crate: {path.stem for path in (ROOT / "crates" / crate / "must-fail").glob("*.edit")} for crate in CRATES}
+ALL_EDITS = set().union(*EDITS.values())
 PUBLIC = re.compile(r"^\s*pub (?:extern \"C\" )?fn (\w+)", re.M)
 
 
+def family(crate):
+    """The name up to the first `_`; a program is no library's family."""
+    return crate.split("_")[0] if crate in LIBRARIES else None
+
+
+def public_functions(crate):
+    """Those that another crate can call: none of a private module."""
+    private = re.findall(r"^mod (\w+);", FILES[crate].get("lib", ""), re.M)
+    return {name for file, text in FILES[crate].items() if file not in private for name in PUBLIC.findall(text)}
+
+
+def uses_of_crates():
+    """(crate, function) to the crates that name it, by `use` or in front of a call; a crate's own other files count as its own."""
+    uses = {}
+    for user in CRATES:
+        for text in FILES[user].values():
+            for named, function in re.findall(r"\b(\w+)::(?:\w+::)?(\w+)\b", text):
+                crate = user if named == "crate" else named
+                if crate in CRATES:
+                    uses.setdefault((crate, function), set()).add(user)
+    return uses
+
+
+USES = uses_of_crates()
+
+
 def is_function(crate, name):
-    return re.search(rf"\b(?:fn|struct|enum|type|const) {name}\b", SOURCES[crate]) is not None
+    return any(re.search(rf"\b(?:fn|struct|enum|type|const) {name}\b", text) for text in FILES[crate].values())
 
 
 def is_definition(module, name, crates):
@@ -50,49 +80,76 @@ def faults_of_token(token, crate):
     return []
 
 
+def tokens_of_cell(cell, crate=None):
+    """(crate, token) of each token of a table's cell or a line: the crate named last in front of it, or `crate`."""
+    for token in TOKEN.findall(cell):
+        if token in CRATES:
+            crate = token
+        else:
+            yield crate, token
+
+
 def faults_of_text(document):
-    faults = []
-    for line in document.read_text().splitlines():
-        for cell in line.split("|"):
-            crate = None
-            for token in TOKEN.findall(cell):
-                if token in CRATES:
-                    crate = token
-                faults += [f"{document.name}: {fault}" for fault in faults_of_token(token, crate)]
-    return faults
+    cells = [cell for line in document.read_text().splitlines() for cell in line.split("|")]
+    return [f"{document.name}: {fault}" for cell in cells for crate, token in tokens_of_cell(cell) for fault in faults_of_token(token, crate)]
 
 
 def rows_of_promises():
-    """(crate, function, edits) of each row of docs/PROMISES.md that stands under a crate's heading."""
-    crate = None
+    """(crate, whether for its family alone, function, edits with their crates) of each row of docs/PROMISES.md under a crate's heading."""
+    crate, own = None, False
     for line in (ROOT / "docs" / "PROMISES.md").read_text().splitlines():
         heading = re.fullmatch(r"## `(\w+)`", line)
-        if heading:
-            crate = heading[1]
+        crate = heading[1] if heading else crate
         cells = line.split("|")
-        if crate and len(cells) == 6 and cells[1].strip().startswith("`"):
-            yield crate, TOKEN.findall(cells[1])[0].split("::")[-1], TOKEN.findall(cells[3])
+        if crate and len(cells) == 6:
+            if cells[1].strip() in ("Function", "For its family"):
+                own = cells[1].strip() == "For its family"
+            elif cells[1].strip().startswith("`"):
+                yield crate, own, TOKEN.findall(cells[1])[0].split("::")[-1], list(tokens_of_cell(cells[3], crate))
+
+
+def faults_of_row(crate, own, function, edits):
+    """A function for strangers has two wrong answers, one at least in its own crate; one for its family is used by its family alone."""
+    faults = [f"{where} has no edit {edit}" for where, edit in edits if edit not in EDITS[where]]
+    if function not in public_functions(crate):
+        faults.append(f"{crate} has no public {function}")
+    users = USES.get((crate, function), set())
+    if own:
+        faults += [f"{crate}::{function} is used by {user}" for user in sorted(users) if family(user) != family(crate)]
+        if not users:
+            faults.append(f"{crate}::{function} is used by nobody in its family")
+    else:
+        near = [where for where, _ in edits if family(where) == family(crate)]
+        if len(near) < 2 or crate not in near:
+            faults.append(f"{crate}::{function} has fewer than two wrong answers")
+    return [f"PROMISES.md: {fault}" for fault in faults]
 
 
 def faults_of_promises():
-    faults, named = [], {crate: set() for crate in CRATES}
-    for crate, function, edits in rows_of_promises():
-        named[crate].add(function)
-        if function not in PUBLIC.findall(SOURCES[crate]):
-            faults.append(f"PROMISES.md: {crate} has no public {function}")
-        if len(edits) < 2:
-            faults.append(f"PROMISES.md: {crate}::{function} has fewer than two wrong answers")
-        faults += [f"PROMISES.md: {crate} has no edit {edit}" for edit in edits if edit not in EDITS[crate]]
-    for crate in CRATES:
-        if (ROOT / "crates" / crate / "src" / "lib.rt").exists():
-            missing = set(PUBLIC.findall(SOURCES[crate])) - named[crate]
-            faults += [f"PROMISES.md: no row for {crate}::{function}" for function in sorted(missing)]
+    headings = re.findall(r"^## `(\w+)`$", (ROOT / "docs" / "PROMISES.md").read_text(), re.M)
+    if headings != LIBRARIES:
+        return [f"PROMISES.md: the headings are {headings}, not {LIBRARIES}"]
+    rows = list(rows_of_promises())
+    faults = [fault for row in rows for fault in faults_of_row(*row)]
+    for crate in LIBRARIES:
+        named = [function for where, _, function, _ in rows if where == crate]
+        faults += [f"PROMISES.md: no row for {crate}::{function}" for function in sorted(public_functions(crate) - set(named))]
+        faults += [f"PROMISES.md: two rows for {crate}::{function}" for function in sorted(set(named)) if named.count(function) > 1]
     return faults
 
 
 def faults_of_edits():
     tokens = {token for document in DOCUMENTS for token in TOKEN.findall(document.read_text())}
-    return [f"no document names the edit {crate}/{edit}" for crate in CRATES for edit in sorted(EDITS[crate] - tokens)]
+    faults = [f"no document names the edit {crate}/{edit}" for crate in CRATES for edit in sorted(EDITS[crate] - tokens)]
+    for line in (ROOT / "docs" / "WRONG-PROGRAMS.md").read_text().splitlines():
+        crate = None
+        for cell in line.split("|"):
+            for where, token in tokens_of_cell(cell, crate):
+                if token in ALL_EDITS and (where is None or token not in EDITS[where]):
+                    faults.append(f"WRONG-PROGRAMS.md: {where} has no edit {token}")
+            first = cell.strip().strip("`")
+            crate = first if first in CRATES else None
+    return faults
 
 
 def faults_of_decisions():
