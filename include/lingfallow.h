@@ -1,9 +1,9 @@
-/* Lingfallow: worst-case delays of the message flows of a plan, and a writer of plans, for C11 and C++ on x86-64 Linux.
+/* Lingfallow: worst-case delays of the message flows of a plan, and a writer of plans, for C99 and C++ on x86-64 Linux.
  *
  * For lingfallow_analyse link with libanalyser.a, for lingfallow_write with libwriter.a; `rt staticlib analyser` and
- * `rt staticlib writer` write them to target/staticlib/. Neither needs the other, and a program may link both. "Document
- * 01" is the paper with the exact rules; plans/ has plans in commented hex, and examples/analyse.c and examples/write.c
- * are programs to start from.
+ * `rt staticlib writer` write them to target/staticlib/. Neither needs the other, and a program may link both.
+ * docs/FORMAT.md has the formats with examples, plans/ has plans in commented hex, and examples/analyse.c and
+ * examples/write.c are programs to start from.
  */
 #ifndef LINGFALLOW_H
 #define LINGFALLOW_H
@@ -15,11 +15,63 @@
 extern "C" {
 #endif
 
-/* Sizes in bytes. */
+/* The version; CHANGELOG.md says what each one changed for a caller. */
+#define LINGFALLOW_VERSION_MAJOR 0
+#define LINGFALLOW_VERSION_MINOR 6
+#define LINGFALLOW_VERSION_PATCH 0
+
+/* Sizes in bytes, and the most flows of a plan. */
+#define LINGFALLOW_MOST_FLOWS 64
 #define LINGFALLOW_LONGEST_PLAN 1484   /* no longer plan is accepted: a platform, 64 flows and the end record */
 #define LINGFALLOW_DECIDING_BYTES 2048 /* of any input the first 2,048 bytes decide: further ones change nothing */
 #define LINGFALLOW_LONGEST_REPLY 1027  /* a buffer of this size has room for every reply, and never meets refusal 11 */
 #define LINGFALLOW_FLOW_RECORD 16      /* a flow's record in the reply */
+
+/* The plan: a platform record, 0 to 64 flow records, then the end record 7F 00 00, then nothing: 12 + 23n bytes for n
+ * flows. Numbers are unsigned, most significant byte first. The platform's record starts at 0, that of flow k, counted
+ * from 0, at 9 + 23k.
+ *
+ *   the platform                                 a flow
+ *   offset  size  meaning                        offset  size  meaning
+ *        0     1  tag: 01 hex                         0     1  tag: 02 hex
+ *        1     2  length of what follows: 6           1     2  length of what follows: 20
+ *        3     1  columns                             3     2  id, which no other flow has
+ *        4     1  rows                                5     2  priority, which no other flow has; 1 is the highest
+ *        5     1  link cycles                         7     1  source: row x columns + column
+ *        6     1  routing cycles                      8     1  destination, not the source
+ *        7     1  buffer flits                        9     2  flits
+ *        8     1  method                             11     4  period, in clock cycles
+ *                                                    15     4  deadline, in clock cycles from the tick
+ *                                                    19     4  jitter: cycles from the tick to the release, at most
+ *
+ * Allowed values: from LEAST to MOST; from 0 where no LEAST stands. Source and destination are below columns x rows,
+ * and a deadline is at most its period.
+ */
+#define LINGFALLOW_LEAST_COLUMNS 1
+#define LINGFALLOW_MOST_COLUMNS 8
+#define LINGFALLOW_LEAST_ROWS 1
+#define LINGFALLOW_MOST_ROWS 8
+#define LINGFALLOW_LEAST_LINK_CYCLES 1
+#define LINGFALLOW_MOST_LINK_CYCLES 16
+#define LINGFALLOW_MOST_ROUTING_CYCLES 16
+#define LINGFALLOW_LEAST_BUFFER_FLITS 1
+#define LINGFALLOW_MOST_BUFFER_FLITS 64
+#define LINGFALLOW_MOST_METHOD 3
+#define LINGFALLOW_MOST_ID 65534
+#define LINGFALLOW_LEAST_PRIORITY 1
+#define LINGFALLOW_MOST_PRIORITY 65535
+#define LINGFALLOW_LEAST_FLITS 1
+#define LINGFALLOW_MOST_FLITS 65535
+#define LINGFALLOW_LEAST_PERIOD 1
+#define LINGFALLOW_MOST_PERIOD 1000000000
+#define LINGFALLOW_LEAST_DEADLINE 1
+#define LINGFALLOW_MOST_JITTER 1000000000
+
+/* Methods. 0 asks for the house default, which is XLWX: the reply is that of method 2, and a plan keeps its 0. */
+#define LINGFALLOW_METHOD_DEFAULT 0
+#define LINGFALLOW_METHOD_SB 1
+#define LINGFALLOW_METHOD_XLWX 2
+#define LINGFALLOW_METHOD_IBN 3
 
 /* The reply: one record for each flow, in plan order, then the end record 7F 00 00: 16n + 3 bytes for n flows. Numbers
  * are unsigned, most significant byte first. The record of flow k, counted from 0, starts at 16k:
@@ -47,49 +99,56 @@ struct lingfallow_returned {
     size_t value;   /* accepted: the length of what was written; refused: the place */
 };
 
+/* The numbers of refusals: when each is given, and whose place in the plan's bytes is told with it. 5 is free.
+ *
+ * Within a record they are looked for in the order 1 (the record's first 3 bytes), 2, 4, 3, 1 (its body), 6, then field
+ * by field (20 to 25, or 30 to 36, 38, 37), 9, 7, 8. The first record in fault decides; then comes 10, then 11. No
+ * refusal is given otherwise.
+ */
+enum lingfallow_refusal {
+    LINGFALLOW_ACCEPTED = 0,
+    LINGFALLOW_REFUSED_CUT = 1,                   /* under 3 bytes for a record, or its body is cut: its start */
+    LINGFALLOW_REFUSED_UNKNOWN_TAG = 2,           /* unknown tag: the tag */
+    LINGFALLOW_REFUSED_LENGTH = 3,                /* length is not the tag's: the length */
+    LINGFALLOW_REFUSED_PLATFORM_PLACE = 4,        /* first record no platform, or a later one is: the tag */
+    LINGFALLOW_REFUSED_FLOW_65 = 6,               /* a 65th flow: its tag */
+    LINGFALLOW_REFUSED_ID_TAKEN = 7,              /* id equal to an earlier flow's: the id */
+    LINGFALLOW_REFUSED_PRIORITY_TAKEN = 8,        /* priority equal to an earlier flow's: the priority */
+    LINGFALLOW_REFUSED_SOURCE_IS_DESTINATION = 9, /* source equals destination: the destination */
+    LINGFALLOW_REFUSED_AFTER_END = 10,            /* a byte after the end record: that byte */
+    LINGFALLOW_REFUSED_NO_ROOM = 11,              /* the reply's buffer, or the written plan's, is too short: 0 */
+    /* A field outside its values: that field. Of the platform .. */
+    LINGFALLOW_REFUSED_COLUMNS = 20,
+    LINGFALLOW_REFUSED_ROWS = 21,
+    LINGFALLOW_REFUSED_LINK_CYCLES = 22,
+    LINGFALLOW_REFUSED_ROUTING_CYCLES = 23,
+    LINGFALLOW_REFUSED_BUFFER_FLITS = 24,
+    LINGFALLOW_REFUSED_METHOD = 25,
+    /* .. and of a flow. */
+    LINGFALLOW_REFUSED_ID = 30,
+    LINGFALLOW_REFUSED_PRIORITY = 31,
+    LINGFALLOW_REFUSED_SOURCE = 32,
+    LINGFALLOW_REFUSED_DESTINATION = 33,
+    LINGFALLOW_REFUSED_FLITS = 34,
+    LINGFALLOW_REFUSED_PERIOD = 35,
+    LINGFALLOW_REFUSED_DEADLINE_ZERO = 36,
+    LINGFALLOW_REFUSED_JITTER = 37,
+    LINGFALLOW_REFUSED_DEADLINE_ABOVE_PERIOD = 38
+};
+
 /* Analyses the plan in the plan_length bytes at plan, and writes its reply into the reply_length bytes at reply.
  *
  * Accepted: number is 0 and value is the reply's length, 16n + 3 for a plan of n flows. The first value bytes at reply
  * hold the reply of the layout above; every further byte of the buffer holds what it held before.
  *
- * Refused: number and value are those of this table, where value is an offset into the plan's bytes, or 0 for 11. The
- * whole buffer holds what it held before.
- *
- *   number  given when                                                               value: the place of
- *        1  under 3 bytes remain where a record must start, or its body is cut       that record's start
- *        2  unknown tag                                                              the tag
- *        3  length is not the tag's                                                  the length
- *        4  first record isn't a platform, or a platform comes later                 the tag
- *        6  a 65th flow                                                              its tag
- *        7  id equal to an earlier flow's                                            the id
- *        8  priority equal to an earlier flow's                                      the priority
- *        9  source equals destination                                                the destination
- *       10  a byte after the end record                                              that byte
- *       11  the reply buffer is too short: reply_length is below 16n + 3             0
- *       20  columns outside 1..8                                                     the platform's columns
- *       21  rows outside 1..8                                                        its rows
- *       22  link cycles outside 1..16                                                its link cycles
- *       23  routing cycles outside 0..16                                             its routing cycles
- *       24  buffer flits outside 1..64                                               its buffer flits
- *       25  method outside 0..3                                                      its method
- *       30  id outside 0..65534                                                      the flow's id
- *       31  priority outside 1..65535                                                its priority
- *       32  source not below columns x rows                                          its source
- *       33  destination not below columns x rows                                     its destination
- *       34  flits outside 1..65535                                                   its flits
- *       35  period outside 1..1,000,000,000                                          its period
- *       36  deadline zero                                                            its deadline
- *       37  jitter outside 0..1,000,000,000                                          its jitter
- *       38  deadline above the period                                                its deadline
- *
- * Within a record they are looked for in the order 1 (the record's first 3 bytes), 2, 4, 3, 1 (its body), 6, then field
- * by field (20 to 25, or 30 to 36, 38, 37), 9, 7, 8. The first record in fault decides; then comes 10, then 11. No
- * refusal is given otherwise.
+ * Refused: number is one of enum lingfallow_refusal and value its place, an offset into the plan's bytes, or 0 for 11,
+ * which is given if reply_length is below 16n + 3. The whole buffer holds what it held before.
  *
  * It asks nothing of the bytes and nothing of the two lengths: every input is accepted or refused as above. What it
- * returns and writes hangs on the plan's bytes and on reply_length alone. It always ends; its time grows with the
+ * returns and writes depends on the plan's bytes and on reply_length alone. It always ends; its time grows with the
  * rounds, which for each flow are at most 2 + the sum over its direct flows j of
- * (deadline - jitter - unloaded latency) / period of j, each rounded up, where less than 0 counts as 0.
+ * (deadline - jitter - unloaded latency) / period of j, each rounded up, where less than 0 counts as 0. A plan of two
+ * flows can take hundreds of millions of rounds, which are seconds (docs/PERFORMANCE.md).
  *
  * Of the pointers it asks that plan points to plan_length bytes that may be read, reply to reply_length bytes that may
  * be written, that the two do not overlap, and that nothing else writes to either during the call. Through the pointer
@@ -104,28 +163,26 @@ struct lingfallow_returned {
 struct lingfallow_returned lingfallow_analyse(const uint8_t *plan, size_t plan_length, uint8_t *reply,
                                               size_t reply_length);
 
-/* A plan as numbers. Each number has the width that its field has in the plan's bytes, so that none is cut; document
- * 01's table says which values are allowed. */
-#define LINGFALLOW_MOST_FLOWS 64
-
+/* A plan as numbers. Each number has the width that its field has in the plan's bytes, so that none is cut; the values
+ * that are allowed are those above. */
 struct lingfallow_platform {
-    uint8_t columns; /* 1 to 8 */
-    uint8_t rows;    /* 1 to 8 */
-    uint8_t link;    /* cycles over a link: 1 to 16 */
-    uint8_t routing; /* cycles in a router: 0 to 16 */
-    uint8_t buffer;  /* flits of a buffer: 1 to 64 */
-    uint8_t method;  /* 1 SB, 2 XLWX, 3 IBN; 0: the house's default */
+    uint8_t columns;
+    uint8_t rows;
+    uint8_t link;    /* cycles over a link */
+    uint8_t routing; /* cycles in a router */
+    uint8_t buffer;  /* flits of a buffer */
+    uint8_t method;  /* LINGFALLOW_METHOD_SB, .. */
 };
 
 struct lingfallow_flow {
-    uint16_t id;         /* 0 to 65,534; no other flow has it */
-    uint16_t priority;   /* 1 to 65,535; 1 is the highest, and no other flow has it */
-    uint8_t source;      /* below columns x rows */
-    uint8_t destination; /* below columns x rows, and not the source */
-    uint16_t flits;      /* 1 to 65,535 */
-    uint32_t period;     /* cycles: 1 to 1,000,000,000 */
-    uint32_t deadline;   /* cycles from the tick: 1 to the period */
-    uint32_t jitter;     /* cycles from the tick to the release at most: 0 to 1,000,000,000 */
+    uint16_t id;
+    uint16_t priority;
+    uint8_t source;
+    uint8_t destination;
+    uint16_t flits;
+    uint32_t period;
+    uint32_t deadline;
+    uint32_t jitter;
 };
 
 struct lingfallow_plan {
@@ -138,13 +195,13 @@ struct lingfallow_plan {
  * and the end record, 12 + 23n bytes for n flows, at most LINGFALLOW_LONGEST_PLAN.
  *
  * Accepted: number is 0 and value is the plan's length. The first value bytes hold the plan; every further byte of the
- * buffer holds what it held before. Read again, these bytes give the same platform and the same flows in the same order:
- * method 0 stays 0.
+ * buffer holds what it held before. Read again, these bytes give the same platform and the same flows in the same
+ * order: method 0 stays 0.
  *
- * Refused: number and value are those that lingfallow_analyse gives for the bytes as they would have been written (7, 8,
- * 9 or 20 to 38 of the table above, at a place in those bytes); then 11 at 0, if length is below 12 + 23n. The whole
- * buffer holds what it held before. A count above 64 says that there are flows which the array has no places for: number
- * is 6 and value 1,481, the place of flow 65, unless the platform or one of the first 64 flows is in fault.
+ * Refused: number and value are those that lingfallow_analyse gives for the bytes as they would have been written (7,
+ * 8, 9 or 20 to 38, at a place in those bytes); then 11 at 0, if length is below 12 + 23n. The whole buffer holds what
+ * it held before. A count above 64 says that there are flows which the array has no places for: number is 6 and value
+ * 1,481, the place of flow 65, unless the platform or one of the first 64 flows is in fault.
  *
  * It asks nothing of the numbers and nothing of the length. Of the pointer it asks that it points to length bytes that
  * may be written, and that nothing else writes to them during the call; of length 0 it may be null. The plan is passed

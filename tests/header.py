@@ -1,0 +1,238 @@
+#!/usr/bin/env python3
+"""Holds what callers and fitters read of the formats to the reader's own table, crates/plan_table/src/lib.rt.
+
+The header's macros, its refusals and its picture of the plan; docs/FORMAT.md's tables; the sizes of examples/lingfallow.rs; the lengths
+of plans/bytes. The header's version is CHANGELOG.md's last. Then faults are planted in copies, and each must be found.
+"""
+import collections
+import pathlib
+import re
+import sys
+
+ROOT = pathlib.Path(__file__).resolve().parent.parent
+TABLE, LISTED = "crates/plan_table/src/lib.rt", "crates/plan_table/specs/Refusals.antt"
+CHECKS, PROGRAM = "crates/plan_checks/src/lib.rt", "crates/bounds/src/main.rt"
+HEADER, FORMAT, RUST, BYTES, CHANGES = "include/lingfallow.h", "docs/FORMAT.md", "examples/lingfallow.rs", "plans/bytes", "CHANGELOG.md"
+FILES = (TABLE, LISTED, CHECKS, PROGRAM, HEADER, FORMAT, RUST, BYTES, CHANGES)
+WIDTHS = {"One": 1, "Two": 2, "Four": 4}
+
+Field = collections.namedtuple("Field", "record offset width name least limit most refusal")
+LINE = re.compile(r"=> Field\(Width::(\w+), (\d+), Limit::(\w+)(?:\(([\d_]+)\))?, (\d+)\), // (.+)$", re.M)
+
+
+def number(digits):
+    return int(digits.replace("_", "").replace(",", ""))
+
+
+def only(pattern, text):
+    found = re.findall(pattern, text, re.M)
+    if len(found) != 1:
+        raise LookupError(f"{pattern} stands {len(found)} times")
+    return found[0]
+
+
+# ---- the reader's table
+
+def lengths(table):
+    body = table[table.index("fn body_length"):table.index("fn field_count")]
+    return {kind: int(length) for kind, length in re.findall(r"Kind::(\w+)Record => (\d+)", body)}
+
+
+def tags(table):
+    return {kind: int(tag, 16) for tag, kind in re.findall(r"(0x\w\w) => Tag::Known\(Kind::(\w+)Record\)", table)}
+
+
+def fields(table):
+    """The table's lines, with the offset of each: the platform's up to its length, then a flow's up to its own."""
+    found, left = [], [("Platform", lengths(table)["Platform"]), ("Flow", lengths(table)["Flow"])]
+    offset = 3
+    for width, least, limit, most, refusal, name in LINE.findall(table):
+        if offset == 3 + left[0][1]:
+            left, offset = left[1:], 3
+        found.append(Field(left[0][0], offset, WIDTHS[width], name, int(least), limit, number(most or "0"), int(refusal)))
+        offset += WIDTHS[width]
+    if len(left) != 1 or offset != 3 + left[0][1]:
+        raise LookupError(f"the fields of {TABLE} do not fill its records")
+    return found
+
+
+def allowed(field):
+    if field.limit == "BelowNodes":
+        return "below columns x rows"
+    return f"{field.least}..{'period' if field.limit == 'UpToPeriod' else field.most}"
+
+
+def refusals_of(field):
+    """A field's own numbers with the macros' ends."""
+    end = field.name.upper().replace(" ", "_")
+    if field.limit == "UpToPeriod":
+        return {f"{end}_ZERO": field.refusal, f"{end}_ABOVE_PERIOD": field.most}
+    return {end: field.refusal}
+
+
+def listed(texts):
+    """Every refusal's number with its offset in its record, by the definition without the reader; 6 and 11 are the plan's and the buffer's."""
+    pairs = {(int(n), int(offset)) for n, offset in re.findall(r"^ *(?:\w+ = )?\((\d+), (\d+)\) ∷", texts[LISTED], re.M)}
+    return pairs | {(6, 0), (11, None)}
+
+
+# ---- what is held to it
+
+def faults_of_macros(texts):
+    """The limits: a LEAST where it is not 0, a MOST where it is a number, and no others."""
+    expected = {"MOST_FLOWS": int(only(r"Kind::FlowRecord => (\d+) <= count", texts[CHECKS]))}
+    for field in fields(texts[TABLE]):
+        name = field.name.upper().replace(" ", "_")
+        if field.least > 0:
+            expected[f"LEAST_{name}"] = field.least
+        if field.limit == "UpTo":
+            expected[f"MOST_{name}"] = field.most
+    found = {name: int(value) for name, value in re.findall(r"#define LINGFALLOW_((?:LEAST|MOST)_\w+) (\d+)", texts[HEADER])}
+    return [f"{HEADER}: {name} is {found.get(name)}, not {expected.get(name)}"
+            for name in sorted(expected.keys() | found.keys()) if found.get(name) != expected.get(name)]
+
+
+def faults_of_refusals(texts):
+    """The enum has the numbers that are listed, and each field's under the field's name."""
+    found = {name: int(value) for name, value in re.findall(r"LINGFALLOW_REFUSED_(\w+) = (\d+)", texts[HEADER])}
+    faults = [f"{HEADER}: REFUSED_{name} is {found.get(name)}, not {value}"
+              for field in fields(texts[TABLE]) for name, value in refusals_of(field).items() if found.get(name) != value]
+    if sorted(found.values()) != sorted(n for n, _ in listed(texts)):
+        faults.append(f"{HEADER}: the refusals are {sorted(found.values())}")
+    return faults
+
+
+def picture_rows(texts):
+    """(record, offset, size, words) of the header's picture of a plan, whose two halves stand side by side."""
+    lines = texts[HEADER].split("\n")
+    head = next(k for k, line in enumerate(lines) if line.count("offset  size  meaning") == 2)
+    middle = lines[head].rindex("offset")
+    for line in lines[head + 1:]:
+        if line.strip() == "*":
+            return
+        for record, half in (("Platform", line[2:middle]), ("Flow", line[middle:])):
+            row = re.fullmatch(r" *(\d+) +(\d+)  (.*?) *", half)
+            if row:
+                yield record, int(row[1]), int(row[2]), row[3]
+
+
+def faults_of_picture(texts):
+    rows = list(picture_rows(texts))
+    expected = [(f.record, f.offset, f.width, f.name) for f in fields(texts[TABLE])]
+    for record, length in lengths(texts[TABLE]).items():
+        if record != "End":
+            expected += [(record, 0, 1, f"tag: {tags(texts[TABLE])[record]:02X} hex"), (record, 1, 2, f"length of what follows: {length}")]
+    faults = [f"{HEADER}: no row of the plan says {place}" for place in expected
+              if not any(row[:3] == place[:3] and re.match(rf"{place[3]}($|[,:; ])", row[3]) for row in rows)]
+    return faults + ([f"{HEADER}: the plan has {len(rows)} rows"] if len(rows) != len(expected) else [])
+
+
+def faults_of_format(texts):
+    """Each field's row, and each refusal's: its offset, and of a field its name and the first value above."""
+    faults = []
+    plain = re.sub(r"(?<=\d),(?=\d)", "", texts[FORMAT])
+    rows = [[cell.strip() for cell in line.strip("|").split("|")] for line in plain.split("\n") if line.startswith("| ")]
+    for field in fields(texts[TABLE]):
+        words = [str(field.offset), str(field.width), field.name]
+        numbers = set(refusals_of(field).values())
+        if not any(row[:3] == words and re.match(rf"{allowed(field)}(,|$)", row[3]) and numbers <= set(map(number, row[4].split(", ")))
+                   for row in rows if len(row) == 5 and row[4][0].isdigit()):
+            faults.append(f"{FORMAT}: no row has {words}, {allowed(field)} and {numbers}")
+        faults += [f"{FORMAT}: refusal {n} does not say {field.name} and its limit" for n in numbers
+                   if not any(row[0] == str(n) and row[1].startswith(field.name) and says_limit(field, row[1]) for row in rows if len(row) == 4)]
+    found = {(int(row[0]), int(row[3]) if row[3] else None) for row in rows if len(row) == 4 and row[0].isdigit() and row[2] and not row[1].isdigit()}
+    return faults + ([f"{FORMAT}: the refusals' offsets differ in {sorted(n for n, _ in found ^ listed(texts))}"] if found != listed(texts) else [])
+
+
+def says_limit(field, words):
+    """What is above the limit: nothing if all the width's values are allowed, one value, or more."""
+    if field.limit != "UpTo":
+        return True
+    above = 256 ** field.width - 1 - field.most
+    return above == 0 or (f" {field.most + 1}," in words if above == 1 else f"above {field.most}" in words)
+
+
+def sizes(texts):
+    flows = int(only(r"Kind::FlowRecord => (\d+) <= count", texts[CHECKS]))
+    plan = sum(3 + length for length in lengths(texts[TABLE]).values()) + (flows - 1) * (3 + lengths(texts[TABLE])["Flow"])
+    return {"MOST_FLOWS": flows, "LONGEST_PLAN": plan, "LONGEST_REPLY": 16 * flows + 3, "FLOW_RECORD": 16,
+            "DECIDING_BYTES": int(only(r"let mut plan = \[0u8; (\d+)\]", texts[PROGRAM]))}
+
+
+def faults_of_sizes(texts):
+    faults = []
+    for name, size in sizes(texts).items():
+        found = int(only(rf"#define LINGFALLOW_{name} (\d+)", texts[HEADER])), int(only(rf"pub const {name}: usize = (\d+);", texts[RUST]))
+        faults += [f"{HEADER} and {RUST}: {name} is {found}, not {size}"] if found != (size, size) else []
+    for name in ("LONGEST_PLAN", "LONGEST_REPLY"):
+        faults += [] if f"at most {sizes(texts)[name]:,}" in texts[FORMAT] else [f"{FORMAT}: no {name}"]
+    found = {int(tag, 16): int(length) for tag, length in re.findall(r'(0x\w\w): \("\w+", (\d+)\)', texts[BYTES])}
+    expected = {tags(texts[TABLE])[kind]: length for kind, length in lengths(texts[TABLE]).items()}
+    return faults + ([f"{BYTES}: the records are {found}"] if found != expected else [])
+
+
+def faults_of_version(texts):
+    parts = [only(rf"#define LINGFALLOW_VERSION_{part} (\d+)", texts[HEADER]) for part in ("MAJOR", "MINOR", "PATCH")]
+    last = re.search(r"^## ([\d.]+) ", texts[CHANGES], re.M)[1]
+    return [] if ".".join(parts) == last else [f"{HEADER}: version {'.'.join(parts)}, and {CHANGES} has {last}"]
+
+
+def faults_of(texts):
+    checks = (faults_of_macros, faults_of_refusals, faults_of_picture, faults_of_format, faults_of_sizes, faults_of_version)
+    try:
+        return [fault for check in checks for fault in check(texts)]
+    except LookupError as error:
+        return [str(error)]
+
+
+# ---- faults that must be found: file, what stands there, what is planted
+
+PLANTED = [
+    (TABLE, "Limit::UpTo(16), 22", "Limit::UpTo(32), 22"),
+    (TABLE, "1, Limit::UpTo(65535), 34", "0, Limit::UpTo(65535), 34"),
+    (TABLE, "Width::Two, 1, Limit::UpTo(65535), 34", "Width::Four, 1, Limit::UpTo(65535), 34"),
+    (TABLE, "Limit::UpToPeriod(38), 36", "Limit::UpToPeriod(36), 38"),
+    (TABLE, "Kind::PlatformRecord => 6,\n        Kind::FlowRecord => 20", "Kind::PlatformRecord => 7,\n        Kind::FlowRecord => 20"),
+    (CHECKS, "Kind::FlowRecord => 64 <= count", "Kind::FlowRecord => 65 <= count"),
+    (PROGRAM, "[0u8; 2048]", "[0u8; 1024]"),
+    (HEADER, "MOST_LINK_CYCLES 16", "MOST_LINK_CYCLES 32"),
+    (HEADER, "#define LINGFALLOW_LEAST_FLITS 1\n", ""),
+    (HEADER, "#define LINGFALLOW_MOST_ID 65534", "#define LINGFALLOW_LEAST_ID 1\n#define LINGFALLOW_MOST_ID 65534"),
+    (HEADER, "REFUSED_SOURCE = 32", "REFUSED_SOURCE = 33"),
+    (HEADER, "REFUSED_AFTER_END = 10", "REFUSED_AFTER_END = 5"),
+    (HEADER, "9     2  flits", "9     1  flits"),
+    (HEADER, "11     4  period", "10     4  period"),
+    (HEADER, "1     2  length of what follows: 20", "1     2  length of what follows: 23"),
+    (HEADER, "LONGEST_REPLY 1027", "LONGEST_REPLY 1024"),
+    (HEADER, "VERSION_MINOR 6", "VERSION_MINOR 5"),
+    (FORMAT, "| link cycles | 1..16 |", "| link cycles | 1..32 |"),
+    (FORMAT, "link cycles 0 or above 16", "link cycles 0 or above 32"),
+    (FORMAT, "| 15 | 4 | deadline | 1..period | 36, 38 |", "| 15 | 4 | deadline | 1..period | 36, 37 |"),
+    (FORMAT, "| 11 | 4 | period |", "| 12 | 4 | period |"),
+    (FORMAT, "| the length | 1 |", "| the length | 0 |"),
+    (FORMAT, "| the priority | 5 |\n| 9 |", "| the priority | 6 |\n| 9 |"),
+    (FORMAT, "at most 1,484", "at most 1,485"),
+    (RUST, "LONGEST_REPLY: usize = 1027", "LONGEST_REPLY: usize = 1024"),
+    (BYTES, '("flow", 20)', '("flow", 23)'),
+    (CHANGES, "## 0.6.0 ", "## 0.7.0 "),
+]
+
+
+def is_found(texts, path, old, new):
+    if old not in texts[path]:
+        sys.exit(f"header: {path} has no {old!r}")
+    return bool(faults_of({**texts, path: texts[path].replace(old, new, 1)}))
+
+
+def main():
+    texts = {path: (ROOT / path).read_text() for path in FILES}
+    faults = faults_of(texts) or [f"{new!r} in {path} is not found" for path, old, new in PLANTED if not is_found(texts, path, old, new)]
+    for fault in faults:
+        print(f"header: {fault}", file=sys.stderr)
+    if faults:
+        sys.exit(1)
+    print(f"header: {len(fields(texts[TABLE]))} fields and {len(listed(texts))} refusals as the reader has them; {len(PLANTED)} planted faults found")
+
+
+if __name__ == "__main__":
+    main()
