@@ -1,4 +1,5 @@
-/* Reads a plan from standard input and prints each flow's verdict, or the refusal. Exit status: 0 accepted, 1 refused.
+/* Reads a plan from standard input and prints each flow's verdict, or the refusal. Exit status: 0 accepted, 1 refused,
+ * 2 if standard input could not be read or standard output not be written.
  *
  *     rt staticlib analyser
  *     gcc -std=c11 -Iinclude examples/analyse.c target/staticlib/libanalyser.a -o target/analyse
@@ -54,10 +55,14 @@ int main(void) {
         return 2;
     }
     struct lingfallow_returned returned = lingfallow_analyse(plan, plan_length, reply, sizeof reply);
-    if (returned.number != 0) {
+    if (returned.number == LINGFALLOW_ACCEPTED) {
+        print_reply(reply, returned.value);
+    } else {
         printf("refused %u at %zu\n", (unsigned)returned.number, returned.value);
-        return 1;
     }
-    print_reply(reply, returned.value);
-    return 0;
+    if (fflush(stdout) != 0 || ferror(stdout)) {
+        perror("analyse: standard output");
+        return 2;
+    }
+    return returned.number == LINGFALLOW_ACCEPTED ? 0 : 1;
 }

@@ -1,4 +1,5 @@
-/* Writes plan P, from its numbers, to standard output. Exit status: 0 written, 1 refused.
+/* Writes plan P, from its numbers, to standard output. Exit status: 0 written, 1 refused, 2 if standard
+ * output could not be written.
  *
  *     rt staticlib writer
  *     gcc -std=c11 -Iinclude examples/write.c target/staticlib/libwriter.a -o target/write
@@ -8,14 +9,17 @@
 
 #include "lingfallow.h"
 
-/* A mesh of 6 x 1 with links of 1 cycle, routers of 0 and buffers of 10 flits; method 3 is IBN. */
+/* A mesh of 6 x 1 with links of 1 cycle, routers of 0 and buffers of 10 flits. */
 static const struct lingfallow_plan p = {
-    .platform = {.columns = 6, .rows = 1, .link = 1, .routing = 0, .buffer = 10, .method = 3},
+    .platform = {.columns = 6, .rows = 1, .link = 1, .routing = 0, .buffer = 10, .method = LINGFALLOW_METHOD_IBN},
     .flows =
         {
-            {.id = 2, .priority = 1, .source = 4, .destination = 5, .flits = 60, .period = 200, .deadline = 200},
-            {.id = 3, .priority = 2, .source = 0, .destination = 5, .flits = 198, .period = 4000, .deadline = 4000},
-            {.id = 5, .priority = 3, .source = 1, .destination = 4, .flits = 128, .period = 6000, .deadline = 6000},
+            {.id = 2, .priority = 1, .source = 4, .destination = 5, .flits = 60,
+             .period = 200, .deadline = 200, .jitter = 0},
+            {.id = 3, .priority = 2, .source = 0, .destination = 5, .flits = 198,
+             .period = 4000, .deadline = 4000, .jitter = 0},
+            {.id = 5, .priority = 3, .source = 1, .destination = 4, .flits = 128,
+             .period = 6000, .deadline = 6000, .jitter = 0},
         },
     .count = 3,
 };
@@ -23,7 +27,7 @@ static const struct lingfallow_plan p = {
 int main(void) {
     uint8_t bytes[LINGFALLOW_LONGEST_PLAN];
     struct lingfallow_returned returned = lingfallow_write(p, bytes, sizeof bytes);
-    if (returned.number != 0) {
+    if (returned.number != LINGFALLOW_ACCEPTED) {
         fprintf(stderr, "refused %u at %zu\n", (unsigned)returned.number, returned.value);
         return 1;
     }

@@ -1,74 +1,14 @@
-//! Writes plan P, from its numbers, to standard output. Exit status: 0 written, 1 refused.
+//! Writes plan P, from its numbers, to standard output. Exit status: 0 written, 1 refused, 2 if standard
+//! output could not be written.
 //!
 //!     rt staticlib writer
-//!     rustc --edition 2021 -L target/staticlib examples/write.rs -o target/write
+//!     rustc --edition 2021 -L target/staticlib -l static=writer examples/write.rs -o target/write
 //!     target/write | cmp - plans/P.plan
+mod lingfallow;
+
+use lingfallow::{Flow, Platform, Refusal};
 use std::io::{self, Write};
 use std::process::ExitCode;
-
-// The sizes that include/lingfallow.h explains.
-const LONGEST_PLAN: usize = 1484;
-const MOST_FLOWS: usize = 64;
-
-#[repr(C)]
-struct Platform {
-    columns: u8,
-    rows: u8,
-    link: u8,
-    routing: u8,
-    buffer: u8,
-    method: u8,
-}
-
-#[repr(C)]
-#[derive(Clone, Copy, Default)]
-struct Flow {
-    id: u16,
-    priority: u16,
-    source: u8,
-    destination: u8,
-    flits: u16,
-    period: u32,
-    deadline: u32,
-    jitter: u32,
-}
-
-#[repr(C)]
-struct Plan {
-    platform: Platform,
-    flows: [Flow; MOST_FLOWS],
-    count: usize,
-}
-
-#[repr(C)]
-struct Returned {
-    number: u8,
-    value: usize,
-}
-
-#[link(name = "writer", kind = "static")]
-extern "C" {
-    fn lingfallow_write(plan: Plan, bytes: *mut u8, length: usize) -> Returned;
-}
-
-struct Refusal {
-    number: u8,
-    place: usize,
-}
-
-/// The plan's length; the plan stands at the start of the buffer, which a refusal leaves as it was.
-fn write_plan(platform: Platform, flows: &[Flow], bytes: &mut [u8]) -> Result<usize, Refusal> {
-    let kept = flows.len().min(MOST_FLOWS);
-    // A count above 64 is refused, so that flows behind the 64th are not lost silently.
-    let mut plan = Plan { platform, flows: [Flow::default(); MOST_FLOWS], count: flows.len() };
-    plan.flows[..kept].copy_from_slice(&flows[..kept]);
-    // SAFETY: a slice's pointer is good for its length.
-    let returned = unsafe { lingfallow_write(plan, bytes.as_mut_ptr(), bytes.len()) };
-    match returned.number {
-        0 => Ok(returned.value),
-        number => Err(Refusal { number, place: returned.value }),
-    }
-}
 
 /// A mesh of 6 x 1 with links of 1 cycle, routers of 0 and buffers of 10 flits; method 3 is IBN.
 const P: Platform = Platform { columns: 6, rows: 1, link: 1, routing: 0, buffer: 10, method: 3 };
@@ -79,14 +19,16 @@ const P_FLOWS: [Flow; 3] = [
 ];
 
 fn run() -> io::Result<ExitCode> {
-    let mut bytes = [0; LONGEST_PLAN];
-    match write_plan(P, &P_FLOWS, &mut bytes) {
+    let mut bytes = [0; lingfallow::LONGEST_PLAN];
+    match lingfallow::write(P, &P_FLOWS, &mut bytes) {
         Ok(length) => {
-            io::stdout().write_all(&bytes[..length])?;
+            let mut out = io::stdout().lock();
+            out.write_all(&bytes[..length])?;
+            out.flush()?;
             Ok(ExitCode::SUCCESS)
         }
         Err(Refusal { number, place }) => {
-            eprintln!("refused {} at {}", number, place);
+            eprintln!("refused {number} at {place}");
             Ok(ExitCode::from(1))
         }
     }
