@@ -1,11 +1,16 @@
 -- Each place and each number of the table of refusals, pinned by examples that are computed from the definitions alone.
-use Prim.Native.Nat.{ℕ}
+use Prim.Native.Nat.{ℕ, _+_, _-_}
 use mathlib.Core.Path.{_≡_, refl}
 use mathlib.Core.List.{List, [], _∷_, _++_, map}
 use lib.ListN.{take, drop, set, replicate}
 use Rattle.framing.specs.First.{_when_else_}
 use Rattle.framing.specs.Put.{put}
-use Rattle.plan_table.specs.Table.{tagOf}
+use Rattle.framing.specs.BigEndian.{numberBytes}
+use Rattle.framing_numbers.specs.Numbers.{bytesOf}
+use Rattle.plan_table.specs.Table.{tagOf, platformFields, flowFields, width, lowestOf, highestOf}
+use Rattle.plan_table.specs.declared.Field.{Field}
+use Rattle.plan_table.specs.declared.Limit.{Limit}
+use Rattle.plan_table.specs.declared.Limit.the-variants.{UpTo, BelowNodes, UpToPeriod}
 use Rattle.plan_values.specs.Values.{blankFlow}
 use Rattle.plan_checks.specs.Checks.{headerAt, taggedAt, frameAt, clashAt, tailAt, restAt}
 use Rattle.plan.specs.Records.{fieldsFrom, _then_, bodyAt, recordAt}
@@ -13,6 +18,7 @@ use Rattle.plan.specs.Reading.{accepted, refused, after, records, readPl
 use Rattle.plan.specs.PlanP.{P}
 use Rattle.framing.specs.declared.returned.Outcome.{Outcome}
 use Rattle.framing.specs.declared.returned.Outcome.the-variants.{Accepted, Refused}
+use Rattle.plan_checks.specs.declared.Limits.{Limits}
 use Rattle.plan_checks.specs.declared.Checked.{Checked}
 use Rattle.plan_checks.specs.declared.Checked.the-variants.{Fault}
 
@@ -100,16 +106,32 @@ last-flow :
 unfolding tagOf headerAt taggedAt frameAt fieldsFrom clashAt tailAt restAt _then_ bodyAt recordAt accepted refused after records readPlan _when_else_ outcomes bytes
 last-flow = refl
 
--- the last allowed value of each field whose first is not the last; among them a deadline of 1 and a jitter of 10^9:
+-- the highest allowed value of a field
+highest : Limits → Limit → ℕ
+highest l (UpTo n) = n
+highest l BelowNodes = l .nodes - 1
+highest l (UpToPeriod own) = l .period
+
+-- a plan with each of these fields, the first of which stands at this place, at its lowest and at its highest value
+edgesFrom : List ℕ → Limits → ℕ → List Field → List (List ℕ)
+edgesFrom s l at [] = []
+edgesFrom s l at (f ∷ rest) =
+    put s at (numberBytes (width f) (lowestOf f)) ∷ put s at (numberBytes (width f) (highest l (highestOf f)))
+    ∷ edgesFrom s l (at + bytesOf (width f)) rest
+
+-- P without flows, and with its last flow alone, whose deadline is 1 so that every period holds it
+no-flows : List ℕ
+no-flows = take 9 P ++ drop 78 P
+
+lone-flow : List ℕ
+lone-flow = put (take 9 P ++ drop 55 P) 24 (0 ∷ 0 ∷ 0 ∷ 1 ∷ [])
+
+-- the first and the last allowed value of each field, by the table; among them a deadline of 1 and a jitter of 10^9:
 -- "A deadline below the unloaded latency is legal, and so is a jitter above the period."
 edges :
-    outcomes
-    (set P 3 8 ∷ set P 4 8 ∷ set P 5 16 ∷ set P 6 16 ∷ set P 7 1 ∷ set P 7 64 ∷ set P 8 0
-    ∷ bytes 12 (0xFF ∷ 0xFE ∷ []) ∷ bytes 14 (0xFF ∷ 0xFF ∷ []) ∷ set P 16 0 ∷ bytes 18 (0xFF ∷ 0xFF ∷ [])
-    ∷ bytes 20 (0x3B ∷ 0x9A ∷ 0xCA ∷ 0x00 ∷ []) ∷ bytes 28 (0x3B ∷ 0x9A ∷ 0xCA ∷ 0x00 ∷ []) ∷ set P 27 1
-    ∷ [])
-    ≡ replicate 14 Accepted
-unfolding tagOf headerAt taggedAt frameAt fieldsFrom clashAt tailAt restAt _then_ bodyAt recordAt accepted refused after records readPlan _when_else_ outcomes bytes
+    outcomes (edgesFrom no-flows (record { nodes = 6; period = 0 }) 3 platformFields ++ edgesFrom lone-flow (record { nodes = 6; period = 6000 }) 12 flowFields)
+    ≡ replicate 28 Accepted
+unfolding tagOf headerAt taggedAt frameAt fieldsFrom clashAt tailAt restAt _then_ bodyAt recordAt accepted refused after records readPlan _when_else_ outcomes highest edgesFrom no-flows lone-flow
 edges = refl
 
 -- 7, 8, 9, 10
