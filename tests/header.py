@@ -1,8 +1,9 @@
 #!/usr/bin/env python3
-"""Holds what callers and fitters read of the formats to the reader's own table, crates/plan_table/src/lib.rt.
+"""Holds what callers and fitters read of the formats to the crates: to the reader's table, crates/plan_table/src/lib.rt, and to
+the reply's record.
 
-The header's macros, its refusals and its picture of the plan; docs/FORMAT.md's tables; the sizes of examples/lingfallow.rs; the lengths
-of plans/bytes. The header's version is CHANGELOG.md's last. Then faults are planted in copies, and each must be found.
+The header's macros, its refusals and its pictures of plan and reply; docs/FORMAT.md's tables; the sizes of examples/lingfallow.rs; the
+lengths of plans/bytes. The header's version is CHANGELOG.md's last. Then faults are planted in copies, and each must be found.
 """
 import collections
 import pathlib
@@ -11,9 +12,9 @@ import sys
 
 ROOT = pathlib.Path(__file__).resolve().parent.parent
 TABLE, LISTED = "crates/plan_table/src/lib.rt", "crates/plan_table/specs/Refusals.antt"
-CHECKS, PROGRAM = "crates/plan_checks/src/lib.rt", "crates/bounds/src/main.rt"
+CHECKS, PROGRAM, REPLY = "crates/plan_checks/src/lib.rt", "crates/bounds/src/main.rt", "crates/reply/specs/Reply.antt"
 HEADER, FORMAT, RUST, BYTES, CHANGES = "include/lingfallow.h", "docs/FORMAT.md", "examples/lingfallow.rs", "plans/bytes", "CHANGELOG.md"
-FILES = (TABLE, LISTED, CHECKS, PROGRAM, HEADER, FORMAT, RUST, BYTES, CHANGES)
+FILES = (TABLE, LISTED, CHECKS, PROGRAM, REPLY, HEADER, FORMAT, RUST, BYTES, CHANGES)
 WIDTHS = {"One": 1, "Two": 2, "Four": 4}
 
 Field = collections.namedtuple("Field", "record offset width name least limit most refusal")
@@ -74,6 +75,16 @@ def listed(texts):
     """Every refusal's number with its offset in its record, by the definition without the reader; 6 and 11 are the plan's and the buffer's."""
     pairs = {(int(n), int(offset)) for n, offset in re.findall(r"^ *(?:\w+ = )?\((\d+), (\d+)\) ∷", texts[LISTED], re.M)}
     return pairs | {(6, 0), (11, None)}
+
+
+def reply_rows(texts):
+    """(offset, width, name) of the reply's fields, by the sentence of document 01 that its definition quotes."""
+    quoted = only(r'^-- "For each flow \.\.: tag 81, length 13, (.*)\."$', texts[REPLY])
+    rows, offset = [], 3
+    for name, width in re.findall(r"([a-z ]+) \((\d)\)", quoted):
+        rows.append((offset, int(width), name.strip()))
+        offset += int(width)
+    return rows
 
 
 # ---- what is held to it
@@ -152,10 +163,23 @@ def says_limit(field, words):
     return above == 0 or (f" {field.most + 1}," in words if above == 1 else f"above {field.most}" in words)
 
 
+def faults_of_reply(texts):
+    section = texts[FORMAT].split("## The reply")[1].split("## Refusals")[0]
+    faults = []
+    for offset, width, name in reply_rows(texts):
+        if not re.search(rf"^ \* +{offset} +{width}  {name}(:| of)", texts[HEADER], re.M):
+            faults.append(f"{HEADER}: the reply has no {name} of {width} bytes at {offset}")
+        if f"| {offset} | {width} | {name} |" not in section:
+            faults.append(f"{FORMAT}: the reply has no {name} of {width} bytes at {offset}")
+    return faults
+
+
 def sizes(texts):
+    offset, width, _ = reply_rows(texts)[-1]
+    record = offset + width
     flows = int(only(r"Kind::FlowRecord => (\d+) <= count", texts[CHECKS]))
     plan = sum(3 + length for length in lengths(texts[TABLE]).values()) + (flows - 1) * (3 + lengths(texts[TABLE])["Flow"])
-    return {"MOST_FLOWS": flows, "LONGEST_PLAN": plan, "LONGEST_REPLY": 16 * flows + 3, "FLOW_RECORD": 16,
+    return {"MOST_FLOWS": flows, "LONGEST_PLAN": plan, "LONGEST_REPLY": record * flows + 3, "FLOW_RECORD": record,
             "DECIDING_BYTES": int(only(r"let mut plan = \[0u8; (\d+)\]", texts[PROGRAM]))}
 
 
@@ -178,7 +202,7 @@ def faults_of_version(texts):
 
 
 def faults_of(texts):
-    checks = (faults_of_macros, faults_of_refusals, faults_of_picture, faults_of_format, faults_of_sizes, faults_of_version)
+    checks = (faults_of_macros, faults_of_refusals, faults_of_picture, faults_of_format, faults_of_reply, faults_of_sizes, faults_of_version)
     try:
         return [fault for check in checks for fault in check(texts)]
     except LookupError as error:
@@ -203,6 +227,7 @@ PLANTED = [
     (HEADER, "9     2  flits", "9     1  flits"),
     (HEADER, "11     4  period", "10     4  period"),
     (HEADER, "1     2  length of what follows: 20", "1     2  length of what follows: 23"),
+    (HEADER, "8     4  bound:", "8     2  bound:"),
     (HEADER, "LONGEST_REPLY 1027", "LONGEST_REPLY 1024"),
     (HEADER, "VERSION_MINOR 6", "VERSION_MINOR 5"),
     (FORMAT, "| link cycles | 1..16 |", "| link cycles | 1..32 |"),
@@ -211,6 +236,7 @@ PLANTED = [
     (FORMAT, "| 11 | 4 | period |", "| 12 | 4 | period |"),
     (FORMAT, "| the length | 1 |", "| the length | 0 |"),
     (FORMAT, "| the priority | 5 |\n| 9 |", "| the priority | 6 |\n| 9 |"),
+    (FORMAT, "| 12 | 4 | rounds |", "| 11 | 4 | rounds |"),
     (FORMAT, "at most 1,484", "at most 1,485"),
     (RUST, "LONGEST_REPLY: usize = 1027", "LONGEST_REPLY: usize = 1024"),
     (BYTES, '("flow", 20)', '("flow", 23)'),
