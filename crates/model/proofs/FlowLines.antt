@@ -126,7 +126,7 @@ pub record RoundsLine (p : Platform) (fs : List Flow) (i : Flow) (a : Answer) : 
   -- so rounds fit four bytes."
   pub four-bytes : roundsIn (a .verdict) < 2 ^ 32
 
-sum-map : {A B : Type 0} (g : A → B) (f : B → ℕ) (l : List A) → sumOver (map g l) f ≡ sumOver l (λ a. f (g a))
+pub sum-map : {A B : Type 0} (g : A → B) (f : B → ℕ) (l : List A) → sumOver (map g l) f ≡ sumOver l (λ a. f (g a))
 unfolding sumOver
 sum-map g f [] = refl
 sum-map g f (a ∷ l) = rw (sum-map g f l)

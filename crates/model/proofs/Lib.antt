@@ -5,7 +5,10 @@ pub mod Judged
 pub mod Verdicts
 pub mod Fits
 pub mod Sides
+pub mod PaperSets
 pub mod FlowLines
 pub mod Ticks
+pub mod PaperParts
+pub mod Paper
 pub mod Figures
 mod Examples

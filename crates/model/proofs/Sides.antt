@@ -29,7 +29,7 @@ one-side p i j k e = rw e (go (comesBefore p i j k))
     go false = refl
 
 -- "they share a link"
-direct-shares : (p : Platform) (i j : Flow) → directFor p i j ≡ true → 0 < pairOf p i j .count
+pub direct-shares : (p : Platform) (i j : Flow) → directFor p i j ≡ true → 0 < pairOf p i j .count
 unfolding directFor
 direct-shares p i j d = ltb-true _ _ (and-right (ltb (j .priority) (i .priority)) (ltb 0 (pairOf p i j .count)) d)
 

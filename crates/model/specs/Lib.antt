@@ -7,3 +7,6 @@ pub mod Verdicts
 pub mod Rules
 -- The answers in an array.
 pub mod Answers
+-- The same from the other side: source document 002's sets and equations.
+pub mod PaperSets
+pub mod PaperEquations
