@@ -8,6 +8,7 @@ pub mod Sides
 pub mod PaperSets
 pub mod FlowLines
 pub mod Ticks
+pub mod Direct
 pub mod PaperParts
 pub mod Paper
 pub mod Figures
