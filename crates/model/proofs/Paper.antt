@@ -4,7 +4,7 @@ use mathlib.Core.Path.{_≡_, refl, sym, ap, ap₂, _∙_}
 use mathlib.Core.Bool.{Bool, true, false, cond}
 use mathlib.Core.Logic.{_↔_}
 use mathlib.Core.List.{List, [], _∷_}
-use native.Mathlib.Nat.{le-refl, add-assoc, mul-add, mul-comm, min-comm, mod-lt, div-add-mod', div-lt-iff-lt-mul}
+use native.Mathlib.Nat.{le-refl, add-assoc, mul-add, mul-comm, mod-lt, div-add-mod', div-lt-iff-lt-mul}
 use native.Mathlib.Omega.{arith}
 use lib.Dec.{eqb}
 use lib.ListN.{length, getD}
@@ -73,6 +73,9 @@ latency-is {p} {f} a w =
 hits-are : {p : Platform} {k : Flow} → LegalFlow p k → (x : ℕ) → hitsIn x k ≡ hits x k
 hits-are {k = k} w x = ceiling-is (x + k .jitter) (k .period) (omega (arith, w .period))
 
+buffered-is : (p : Platform) (i j : Flow) → bi₇ p i j ≡ buffered p i j
+buffered-is p i j = omega arith
+
 -- ⌈(x + J_j + A) / T_j⌉ W is j's term at x.
 term-is : {p : Platform} {j : Flow} → LegalFlow p j → (x : ℕ) {A a W v : ℕ} → A ≡ a → W ≡ v → ⌈ (x + J j + A) ÷ T j ⌉ * W ≡ delay (record { shift = j .jitter + a; period = j .period; weight = v }) x
 term-is {j = j} w x {A} same alike = rw (ceiling-is (x + j .jitter + A) (j .period) (omega (arith, w .period)), add-assoc x (j .jitter) A, same, alike)
@@ -115,13 +118,9 @@ module _ {p : Platform} {fs : List Flow} (w : Legal p fs) (R : Flow → ℕ) (i 
       (ap (λ (n : ℕ). latency p (flow fs i) + n)
       (sym (sum-is (Sᴰ p (flow fs i)) (directFor p (flow fs i)) _ _ fs (λ k l. direct-is p (flow fs i) (flow fs k)) (λ j l d. term-is (w .each j l) x (allowed j l d) (weighs j l d)))))
 
-  -- J_j^I = R_j - C_j
-  jitter-is : (j : ℕ) → j < length fs → Jᴵ p fs R (flow fs j) ≡ R (flow fs j) - latency p (flow fs j)
-  jitter-is j l = ap (λ (n : ℕ). R (flow fs j) - n) (C-is j l)
-
   pub sb-is-3 : (x : ℕ) → rightSide (latency p (flow fs i)) (terms SB p fs R (flow fs i)) x ≡ R₃ p fs R (flow fs i) x
   unfolding allowance weight
-  sb-is-3 = equation SB (Jᴵ p fs R) (C p) (λ j l d. jitter-is j l) (λ j l d. C-is j l)
+  sb-is-3 = equation SB (Jᴵ p fs R) (C p) (λ j l d. omega (arith, C-is j l)) (λ j l d. C-is j l)
 
   pub xlwx-is-6 : (x : ℕ) → rightSide (latency p (flow fs i)) (terms XLWX p fs R (flow fs i)) x ≡ R₆ p fs R (flow fs i) x
   unfolding allowance weight
@@ -133,12 +132,12 @@ module _ {p : Platform} {fs : List Flow} (w : Legal p fs) (R : Flow → ℕ) (i 
   pub ibn-is-10 : (x : ℕ) → rightSide (latency p (flow fs i)) (terms IBN p fs R (flow fs i)) x ≡ R₁₀ p fs R (flow fs i) x
   unfolding allowance weight
   ibn-is-10 =
-      equation IBN (Jᴵ p fs R) (λ j. C p j + Iᵈᵒʷⁿ₉ p fs R j (flow fs i)) (λ j l d. jitter-is j l)
+      equation IBN (Jᴵ p fs R) (λ j. C p j + Iᵈᵒʷⁿ₉ p fs R j (flow fs i)) (λ j l d. omega (arith, C-is j l))
       (λ j l d.
       ap₂ (λ (m n : ℕ). m + n) (C-is j l)
       (cost-is _ (downstreamFor p (flow fs i) (flow fs j)) (λ k. min (bi₇ p (flow fs i) (flow fs j)) (C p k)) (λ k. min (latency p k) (buffered p (flow fs i) (flow fs j))) (R (flow fs j))
       (λ k lk. downstream-is w i j k li l lk d)
-      (λ k lk. min-comm (bi₇ p (flow fs i) (flow fs j)) (C p (flow fs k)) ∙ ap (λ (n : ℕ). min n (buffered p (flow fs i) (flow fs j))) (C-is k lk))))
+      (λ k lk. omega (arith, C-is k lk, buffered-is p (flow fs i) (flow fs j)))))
 
   -- The right side of each method is its equation's.
   pub equation-is : (m : Method) (x : ℕ) → rightSide (latency p (flow fs i)) (terms m p fs R (flow fs i)) x ≡ equationOf p fs R m (flow fs i) x
