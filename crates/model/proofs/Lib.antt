@@ -13,3 +13,4 @@ pub mod PaperParts
 pub mod Paper
 pub mod Figures
 mod Examples
+mod PaperTables
