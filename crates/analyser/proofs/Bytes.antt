@@ -15,8 +15,9 @@ use Rattle.model.specs.declared.Verdict.{Verdict}
 use Rattle.model.specs.declared.Answer.{Answer}
 use Rattle.model.specs.Verdicts.{verdictNumber, namedFlow, boundIn, roundsIn}
 use Rattle.reply.specs.Reply.{recordOf, replyBytes}
-use Rattle.analyser.specs.Records.{Tells, Holds}
-use Rattle.analyser.proofs.Records.{tells-only}
+use Rattle.reply.specs.Records.{Tells}
+use Rattle.analyser.specs.Records.{Holds}
+use Rattle.analyser.proofs.Telling.{tells-only}
 
 module _ {s t : List ℕ} (bs : Bytes s) (bt : Bytes t) where
   -- The bytes of equal numbers are equal.

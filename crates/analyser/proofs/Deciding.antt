@@ -21,9 +21,10 @@ use Rattle.model.proofs.FlowLines.{answer-at, rounds-line}
 use Rattle.engine.proofs.Accepted.{plan-flows}
 use Rattle.reply.specs.Reply.{replyBytes}
 use Rattle.reply.proofs.Theorems.{reply-length, Fits}
-use Rattle.analyser.specs.Records.{answerLines, Tells, Holds}
+use Rattle.reply.specs.Records.{Tells}
+use Rattle.reply.proofs.Records.{line, end-at}
+use Rattle.analyser.specs.Records.{answerLines, Holds}
 use Rattle.analyser.proofs.Replying.{Replied, replied-refused, replied-short, replied-analysed}
-use Rattle.analyser.proofs.Records.{line, end-at}
 
 module _ (bytes held : List ℕ) where
   pub refused-returned : {number place : ℕ} → readPlan bytes ≡ refused number place → Replied bytes held (refusedWith number place) held

@@ -1,6 +1,7 @@
 -- The tender's three conditions of acceptance, of any bytes offered as a plan and any buffer lent for the reply.
 -- `analyse` promises to return `returned bytes (length held)` and to leave `left bytes held` in the buffer that held `held`.
--- The words of these statements: `Laid`, `Legal` and `Listed` of plan's specs, `Right` of model's specs/Rules, and this crate's specs/Records.
+-- The words of these statements: `Laid`, `Legal` and `Listed` of plan's specs, `Right` of model's specs/Rules, and specs/Records of
+-- reply, the places in a record, and of this crate.
 -- By document 02 (L3) the deadline of demands 2 and 3 is the deadline less the flow's own jitter, `limit` of model's specs/Latency; without jitter it is
 -- the deadline (`no-jitter` of model's proofs/Ticks).
 use Prim.Native.Nat.{ℕ, _+_, _-_, _*_, _≤_, _<_}
@@ -37,10 +38,11 @@ use Rattle.model.proofs.Verdicts.{right, right-once}
 use Rattle.model.proofs.FlowLines.{answer-at, verdict-line, rounds-line}
 use Rattle.model.proofs.Ticks as tick
 use Rattle.reply.specs.Reply.{replyBytes}
+use Rattle.reply.specs.Records.{idAt, verdictAt, namedAt, boundAt, roundsAt}
 use Rattle.analyser.specs.Analysed.{returned, left}
-use Rattle.analyser.specs.Records.{answerLines, idAt, verdictAt, namedAt, boundAt, roundsAt, Holds}
+use Rattle.analyser.specs.Records.{answerLines, Holds}
 use Rattle.analyser.proofs.Replying.{Replied}
-use Rattle.analyser.proofs.Records.{tells-bounded, tells-rounds, tells-late, tells-waits, tells-names, tells-only}
+use Rattle.analyser.proofs.Telling.{tells-bounded, tells-rounds, tells-late, tells-waits, tells-names, tells-only}
 use Rattle.analyser.proofs.Bytes.{same-buffer, reply-bytes}
 use Rattle.analyser.proofs.Deciding.{refused-returned, short-returned, reply-returned, right-lines, held-reply}
 

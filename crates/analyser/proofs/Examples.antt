@@ -26,8 +26,8 @@ use Rattle.model.specs.Interference.{directFor, indirectFor, comesBefore, those
 use Rattle.model.specs.Delays.{allowance, weight, term, terms}
 use Rattle.model.specs.Verdicts.{highest, judged, judge, verdictBelow, verdict, answers}
 use Rattle.reply.specs.Reply.{recordOf}
+use Rattle.reply.specs.Records.{idAt, verdictAt, boundAt, roundsAt}
 use Rattle.analyser.specs.Analysed.{returned, left}
-use Rattle.analyser.specs.Records.{idAt, verdictAt, boundAt, roundsAt}
 use Rattle.analyser.proofs.Demands.{Offered, promised-exactly}
 
 -- "Reply, 51 bytes"

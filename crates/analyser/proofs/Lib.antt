@@ -1,5 +1,5 @@
 mod Replying
-mod Records
+mod Telling
 mod Bytes
 mod Deciding
 pub mod Demands

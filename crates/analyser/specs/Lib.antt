@@ -1,4 +1,4 @@
 -- What is returned for any bytes, and what the reply's buffer holds then.
 pub mod Analysed
--- What stands where in a reply.
+-- A buffer that holds the reply to a plan.
 pub mod Records

@@ -1,2 +1,3 @@
--- The reply's bytes.
+-- The reply's bytes, as they are written and as they are read.
 pub mod Reply
+pub mod Records

@@ -1,6 +1,7 @@
 // One flow's record.
 ghost use mathlib.Core.Path.{_≡_};
 ghost use Rattle.model.specs.Verdicts.{verdictNumber, namedFlow, boundIn, roundsIn};
+ghost use Rattle.reply.specs.Records.{verdictBy};
 ghost use Rattle.reply.specs.Reply.{recordOf};
 use framing::big_endian::byte_of;
 use model::Answer;
@@ -67,4 +68,15 @@ pub(crate) fn record_bytes(a: Answer) -> [u8; 16]
         byte_of(256, p.rounds),
         byte_of(1, p.rounds),
     ]
+}
+
+// The way back: the verdict that a record's numbers tell.
+pub(crate) fn verdict_by(number: u8, named: u16, bound: u32, rounds: u32) -> Verdict
+    ensures { λ r. ⌜ r ≡ verdictBy number named bound rounds ⌝ }
+{
+    match number {
+        0 => Verdict::Bounded(bound, rounds),
+        1 => Verdict::Late(rounds),
+        _ => Verdict::Waits(named),
+    }
 }
