@@ -1,5 +1,5 @@
 -- The lines, the text.
 mod Listing
-mod Printing
 pub mod Theorems
+mod Printing
 mod Examples

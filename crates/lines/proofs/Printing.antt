@@ -1,24 +1,23 @@
--- `text_of` hands over the text that is defined, by what was read: a refusal, or a plan.
-use Prim.Native.Nat.{ℕ, zero, suc, _-_, _≤_}
+-- `text_of` hands over the text that is defined: what it wrote by what was returned, and by the reply, is that text.
+use Prim.Native.Nat.{ℕ, zero, suc, _+_, _-_, _*_, _/_, _≤_, _<_}
 use native.Mathlib.Nat.{zero-add}
 use native.Mathlib.Omega.{arith}
 use native.Mathlib.Numerals.{unary-clauses}
 use mathlib.Core.Path.{_≡_, refl, sym, ap, ap₂, _∙_}
 use mathlib.Core.List.{List, _++_}
-use lib.ListN.{length, take, drop, replicate}
+use lib.ListN.{length, drop, replicate, length-replicate}
 use lib.Seq.{length-take-le}
 use Rattle.io.specs.Counts.{Counts}
-use Rattle.framing.specs.Each.{each}
-use Rattle.framing.specs.declared.returned.Outcome.the-variants.{Accepted, Refused}
-use Rattle.plan.specs.declared.Reading.{Reading}
-use Rattle.plan.specs.Reading.{readPlan}
-use Rattle.model.specs.declared.Answer.{Answer}
-use Rattle.model.specs.Answers.{answerArray}
-use Rattle.engine.proofs.Accepted.{reading-scene, first-answers}
+use Rattle.framing.specs.declared.returned.Returned.{Returned}
+use Rattle.plan_values.specs.Values.{platformAt}
+use Rattle.plan_values.specs.declared.Platform.{Platform}
+use Rattle.analyser.specs.Analysed.{returned, left}
 use Rattle.lines_each.specs.Written.{Written}
-use Rattle.lines_each.specs.Lines.{meshLine, flowLine, refusalLine}
-use Rattle.lines.specs.Lines.{textBy, textOf, handed}
+use Rattle.lines_each.specs.Lines.{meshLine, refusalLine}
 use Rattle.lines_each.proofs.Chain.{chain, length-held}
+use Rattle.lines.specs.Lines.{textOf, handed}
+use Rattle.lines.specs.Replied.{recordLines}
+use Rattle.lines.proofs.Theorems.{Lines, SameAsReply, same-as-the-reply}
 
 zeros-left : (n k : ℕ) → drop {A = ℕ} k (replicate n 0) ≡ replicate (n - k) 0
 zeros-left n zero = simp unary-clauses refl
@@ -36,20 +35,32 @@ counted {text} {out} {n} w =
     let h : n ≤ length out = rw (length-held w) (w .inside) in
     (h, sym (length-take-le n out h))
 
+-- The reply's buffer, as it is lent.
+abbrev blank : List ℕ
+blank = replicate 1027 0
+
 -- What the contract says of the text handed over.
 abbrev Handed : List ℕ → List ℕ → ℕ → Type 0
 Handed bytes out n = (record { bytes = out; length = n } ≡ handed (textOf bytes)) × (n ≤ 3200) × Counts n out
 
-module _ (bytes : List ℕ) {r : Reading} (e : r ≡ readPlan bytes) {out : List ℕ} {n : ℕ} where
-  pub printed-refused : {number place : ℕ} → r .outcome ≡ Refused number place → Written (replicate 3200 0) 0 (refusalLine number place) out n → Handed bytes out n
-  unfolding textBy
-  printed-refused o w = (rw (← e, o) (handed-is w), w .inside, counted w)
+module _ (bytes : List ℕ) where
+  written-handed : {text out : List ℕ} {n : ℕ} → textOf bytes ≡ text → Written (replicate 3200 0) 0 text out n → Handed bytes out n
+  written-handed e w = (rw e (handed-is w), w .inside, counted w)
 
-  module _ (o : r .outcome ≡ Accepted) where
-    pub printed-lines :
-        {mid : List ℕ} {m : ℕ} {list : List Answer} → Written (replicate 3200 0) 0 (meshLine (r .plan .platform)) mid m →
-        list ≡ answerArray (r .plan .platform) (take (r .plan .count) (r .plan .flows)) → Written mid m (each flowLine (take (r .plan .count) list)) out n → Handed bytes out n
-    unfolding textBy
-    printed-lines v a w =
-        let all = chain v w in
-        (rw (← e, o, ← (first-answers (r .plan) (reading-scene bytes e o) a)) (handed-is all), all .inside, counted all)
+  -- What `analyse` promises.
+  module _ {is : List ℕ} {r : Returned} (e : (r ≡ returned bytes (length blank)) × (is ≡ left bytes blank)) where
+    said : SameAsReply bytes r is (textOf bytes)
+    said = rw (e .0, e .1) (same-as-the-reply bytes blank (omega (arith, length-replicate {A = ℕ} 1027 0)))
+
+    pub printed-refused : 0 < r .number → {out : List ℕ} {n : ℕ} → Written (replicate 3200 0) 0 (refusalLine (r .number) (r .value)) out n → Handed bytes out n
+    printed-refused h w = written-handed (said .refusal (λ z. omega arith)) w
+
+    module _ (h : r .number ≤ 0) where
+      pub all-lines : Lines bytes is (textOf bytes) (r .value) ((r .value - 3) / 16)
+      all-lines =
+          let (n, l) = said .reply (omega arith) in
+          let q : n ≡ (r .value - 3) / 16 = omega (arith, l .size) in
+          rw q at l
+
+      pub printed-lines : {p : Platform} {mid out : List ℕ} {m n : ℕ} → p ≡ platformAt bytes 0 → Written (replicate 3200 0) 0 (meshLine p) mid m → Written mid m (recordLines is ((r .value - 3) / 16)) out n → Handed bytes out n
+      printed-lines q v w = written-handed (all-lines .lines) (chain (rw q at v) w)

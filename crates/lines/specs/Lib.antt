@@ -1,2 +1,3 @@
--- The text that `bounds` prints.
+-- The text that `bounds` prints, from the bytes and from the reply to them.
 pub mod Lines
+pub mod Replied

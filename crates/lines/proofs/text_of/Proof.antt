@@ -2,18 +2,18 @@
 use Prim.Native.Nat.{ℕ}
 use native.Mathlib.Omega.{arith}
 use borrow.Author.Needs.{needs}
+use denote.Ref.{now}
 use lib.ListN.{length-replicate}
-use Rattle.engine.proofs.Accepted.{reading-scene}
 use Rattle.lines_each.proofs.Chain.{length-held}
-use Rattle.lines.proofs.Printing.{printed-refused, printed-lines}
+use Rattle.lines.proofs.Printing.{printed-refused, all-lines, printed-lines}
 use Rattle.lines.proofs.text_of.Statement.{statement}
 use Rattle.lines.proofs.text_of.Tie as tie
 
-read-requires : tie.Need-read-requires
-read-requires c κs = search needs
+slice-aggregate-analyse : tie.Need-slice-aggregate-analyse
+slice-aggregate-analyse c = search needs
 
-enum-known-outcome : tie.Need-enum-known-outcome
-enum-known-outcome c = search needs
+analyse-requires : tie.Need-analyse-requires
+analyse-requires c κs = search needs
 
 slice-aggregate-put-refusal : tie.Need-slice-aggregate-put-refusal
 slice-aggregate-put-refusal c = search needs
@@ -22,45 +22,50 @@ put-refusal-requires : tie.Need-put-refusal-requires
 put-refusal-requires c κs = search needs
 
 returns : tie.Need-returns
-returns c = printed-refused _ (c .before .before .before .before .before .before .read .ensures) (c .before .before .before .before .outcome .given .1) (c .before .put-refusal .ensures)
-
-enum-told : tie.Need-enum-told
-enum-told c = search needs
+returns c = printed-refused _ (c .before .before .before .before .before .before .analyse .ensures) (c .before .before .before .if1 .taken) (c .before .put-refusal .ensures)
 
 slice-aggregate-put-mesh : tie.Need-slice-aggregate-put-mesh
 slice-aggregate-put-mesh c = search needs
 
+platform-at-requires : tie.Need-platform-at-requires
+platform-at-requires c κs = all-lines _ (c .before .before .before .before .analyse .ensures) (c .before .if1 .left) .mesh
+
 put-mesh-requires : tie.Need-put-mesh-requires
 put-mesh-requires c κs = search needs
+
+sub-count : tie.Need-sub-count
+sub-count c = omega (arith, all-lines (now (c .before .before .before .before .before .before .before .before .before .before .before .args .bytes)) (c .before .before .before .before .before .before .before .before .analyse .ensures) (c .before .before .before .before .before .if1 .left) .size)
 
 slice-aggregate-put-flows : tie.Need-slice-aggregate-put-flows
 slice-aggregate-put-flows c = search needs
 
-analyse-plan-requires : tie.Need-analyse-plan-requires
-analyse-plan-requires c κs = reading-scene _ (c .before .before .before .before .before .before .before .read .ensures) (c .before .before .before .before .before .enum-told .given .1)
+slice-aggregate-put-flows-2 : tie.Need-slice-aggregate-put-flows-2
+slice-aggregate-put-flows-2 c = search needs
 
 put-flows-requires : tie.Need-put-flows-requires
 put-flows-requires c κs =
-    let w = reading-scene _ (c .before .before .before .before .before .before .before .before .read .ensures) (c .before .before .before .before .before .before .enum-told .given .1) in
-    let m = c .before .before .before .put-mesh .ensures in
-    (omega (arith, w .few), omega (arith, w .few, m .1, length-held (m .0), length-replicate {A = ℕ} 3200 0))
+    let a = c .before .before .before .before .before .before .before .before .before .before in
+    let w = all-lines (now (a .before .before .before .args .bytes)) (a .analyse .ensures) (c .before .before .before .before .before .before .before .if1 .left) in
+    let m = c .before .before .before .before .put-mesh .ensures in
+    (omega (arith, w .few, m .1, length-held (m .0), length-replicate {A = ℕ} 3200 0), omega (arith, w .size, w .whole))
 
 returns-2 : tie.Need-returns-2
-returns-2 c = printed-lines _ (c .before .before .before .before .before .before .before .before .before .before .read .ensures) (c .before .before .before .before .before .before .before .before .enum-told .given .1) (c .before .before .before .before .before .put-mesh .ensures .0) (c .before .before .analyse-plan .ensures) (c .before .put-flows .ensures)
+returns-2 c = printed-lines _ (c .before .before .before .before .before .before .before .before .before .before .before .before .analyse .ensures) (c .before .before .before .before .before .before .before .before .before .if1 .left) (c .before .before .before .before .before .before .before .platform-at .ensures) (c .before .before .before .before .before .before .put-mesh .ensures .0) (c .before .put-flows .ensures)
 
 pub text-of-spec : {M : Type 1} → statement M
 text-of-spec =
     tie.close
     (tie.spec
-    read-requires
-    enum-known-outcome
+    slice-aggregate-analyse
+    analyse-requires
     slice-aggregate-put-refusal
     put-refusal-requires
     returns
-    enum-told
     slice-aggregate-put-mesh
+    platform-at-requires
     put-mesh-requires
+    sub-count
     slice-aggregate-put-flows
-    analyse-plan-requires
+    slice-aggregate-put-flows-2
     put-flows-requires
     returns-2)
