@@ -56,11 +56,11 @@ module _ (bytes : List ℕ) where
     printed-refused h w = written-handed (said .refusal (λ z. omega arith)) w
 
     module _ (h : r .number ≤ 0) where
-      pub all-lines : Lines bytes is (textOf bytes) (r .value) ((r .value - 3) / 16)
-      all-lines =
-          let (n, l) = said .reply (omega arith) in
-          let q : n ≡ (r .value - 3) / 16 = omega (arith, l .size) in
-          rw q at l
+      pub all-lines : (n : ℕ) × Lines bytes is (textOf bytes) (r .value) n
+      all-lines = said .reply (omega arith)
 
-      pub printed-lines : {p : Platform} {mid out : List ℕ} {m n : ℕ} → p ≡ platformAt bytes 0 → Written (replicate 3200 0) 0 (meshLine p) mid m → Written mid m (recordLines is ((r .value - 3) / 16)) out n → Handed bytes out n
-      printed-lines q v w = written-handed (all-lines .lines) (chain (rw q at v) w)
+      pub printed-lines : {p : Platform} {mid out : List ℕ} {m n : ℕ} (count : ℕ) → p ≡ platformAt bytes 0 → 16 * count + 3 ≡ r .value → Written (replicate 3200 0) 0 (meshLine p) mid m → Written mid m (recordLines is count) out n → Handed bytes out n
+      printed-lines count e size v w =
+          let (n, l) = all-lines in
+          let q : n ≡ count = omega (arith, l .size) in
+          written-handed ((rw q at l) .lines) (chain (rw e at v) w)

@@ -7,6 +7,7 @@ use native.Mathlib.Omega.{arith}
 use borrow.Author.Tests.{ne-eqb}
 use lib.ListN.{length, getD}
 use lib.Seq.{getD-append-add}
+use Rattle.framing_numbers.specs.Numbers.{oneAt, twoAt, fourAt}
 use Rattle.framing.specs.Each.{each}
 use Rattle.framing.specs.First.{_when_else_}
 use Rattle.framing.specs.Header.{Headed, endRecord}
@@ -17,7 +18,7 @@ use Rattle.model.specs.declared.Verdict.the-variants.{Bounded, Late, Waits}
 use Rattle.model.specs.declared.Answer.{Answer}
 use Rattle.model.specs.Verdicts.{verdictNumber, namedFlow, boundIn, roundsIn}
 use Rattle.reply.specs.Reply.{recordOf, replyBytes}
-use Rattle.reply.specs.Records.{idAt, verdictAt, namedAt, boundAt, roundsAt, Tells, verdictBy, answerAt}
+use Rattle.reply.specs.Records.{Tells, verdictBy, answerAt}
 use Rattle.reply.proofs.Writing.{length-record, length-records}
 use Rattle.reply.proofs.Theorems.{Fits, read-back}
 
@@ -35,11 +36,11 @@ module _ (named bound rounds : ℕ) {number : ℕ} where
   unfolding verdictBy _when_else_
   verdict-2 a b = rw (ne-eqb number 0 a, ne-eqb number 1 b)
 
--- An answer made of the numbers at their places.
-pub answer-made : (is : List ℕ) (k : ℕ) {id number named bound rounds : ℕ} {v : Verdict} →
-    id ≡ idAt is k → number ≡ verdictAt is k → named ≡ namedAt is k → bound ≡ boundAt is k → rounds ≡ roundsAt is k → v ≡ verdictBy number named bound rounds
-    → _≡_ {A = Answer} (record { id = id; verdict = v }) (answerAt is k)
-answer-made is k a b c d e f = rw (a, f, b, c, d, e)
+-- An answer made of the numbers at their places in the record that starts at `at`.
+pub answer-made : (is : List ℕ) (k : ℕ) {at id number named bound rounds : ℕ} {v : Verdict} →
+    at ≡ 16 * k → id ≡ twoAt is (at + 3) → number ≡ oneAt is (at + 5) → named ≡ twoAt is (at + 6) → bound ≡ fourAt is (at + 8) → rounds ≡ fourAt is (at + 12) →
+    v ≡ verdictBy number named bound rounds → _≡_ {A = Answer} (record { id = id; verdict = v }) (answerAt is k)
+answer-made is k s a b c d e f = rw (a, f, b, c, d, e, s)
 
 -- The numbers that a verdict is written as tell that verdict.
 verdict-back : (v : Verdict) → verdictBy (verdictNumber v) (namedFlow v) (boundIn v) (roundsIn v) ≡ v

@@ -28,13 +28,15 @@ slice-aggregate-put-mesh : tie.Need-slice-aggregate-put-mesh
 slice-aggregate-put-mesh c = search needs
 
 platform-at-requires : tie.Need-platform-at-requires
-platform-at-requires c κs = all-lines _ (c .before .before .before .before .analyse .ensures) (c .before .if1 .left) .mesh
+platform-at-requires c κs = all-lines _ (c .before .before .before .before .analyse .ensures) (c .before .if1 .left) .1 .mesh
 
 put-mesh-requires : tie.Need-put-mesh-requires
 put-mesh-requires c κs = search needs
 
 sub-count : tie.Need-sub-count
-sub-count c = omega (arith, all-lines (now (c .before .before .before .before .before .before .before .before .before .before .before .args .bytes)) (c .before .before .before .before .before .before .before .before .analyse .ensures) (c .before .before .before .before .before .if1 .left) .size)
+sub-count c =
+    let a = c .before .before .before .before .before .before .before .before in
+    omega (arith, all-lines (now (a .before .before .before .args .bytes)) (a .analyse .ensures) (c .before .before .before .before .before .if1 .left) .1 .size)
 
 slice-aggregate-put-flows : tie.Need-slice-aggregate-put-flows
 slice-aggregate-put-flows c = search needs
@@ -45,12 +47,16 @@ slice-aggregate-put-flows-2 c = search needs
 put-flows-requires : tie.Need-put-flows-requires
 put-flows-requires c κs =
     let a = c .before .before .before .before .before .before .before .before .before .before in
-    let w = all-lines (now (a .before .before .before .args .bytes)) (a .analyse .ensures) (c .before .before .before .before .before .before .before .if1 .left) in
+    let w = all-lines (now (a .before .before .before .args .bytes)) (a .analyse .ensures) (c .before .before .before .before .before .before .before .if1 .left) .1 in
     let m = c .before .before .before .before .put-mesh .ensures in
-    (omega (arith, w .few, m .1, length-held (m .0), length-replicate {A = ℕ} 3200 0), omega (arith, w .size, w .whole))
+    (omega (arith, w .size, w .few, m .1, length-held (m .0), length-replicate {A = ℕ} 3200 0), omega (arith, w .size, w .whole))
 
 returns-2 : tie.Need-returns-2
-returns-2 c = printed-lines _ (c .before .before .before .before .before .before .before .before .before .before .before .before .analyse .ensures) (c .before .before .before .before .before .before .before .before .before .if1 .left) (c .before .before .before .before .before .before .before .platform-at .ensures) (c .before .before .before .before .before .before .put-mesh .ensures .0) (c .before .put-flows .ensures)
+returns-2 c =
+    let a = c .before .before .before .before .before .before .before .before .before .before .before .before in
+    let bytes = now (a .before .before .before .args .bytes) in
+    let w = all-lines bytes (a .analyse .ensures) (c .before .before .before .before .before .before .before .before .before .if1 .left) .1 in
+    printed-lines bytes (a .analyse .ensures) (c .before .before .before .before .before .before .before .before .before .if1 .left) _ (c .before .before .before .before .before .before .before .platform-at .ensures) (omega (arith, w .size)) (c .before .before .before .before .before .before .put-mesh .ensures .0) (c .before .put-flows .ensures)
 
 pub text-of-spec : {M : Type 1} → statement M
 text-of-spec =

@@ -1,4 +1,5 @@
 -- `reply::answer_at` meets its contract: each number is read at its place in record k.
+use native.Mathlib.Omega.{arith}
 use borrow.Author.Needs.{needs}
 use denote.Ref.{now}
 use Rattle.reply.proofs.Records.{answer-made}
@@ -44,7 +45,7 @@ verdict-by-requires c κs = search needs
 returns : tie.Need-returns
 returns c =
     let a = c .before .before .before .before .before .before .before .args in
-    answer-made (now (a .reply)) (a .k) (c .before .before .before .before .before .two-at .ensures) (c .before .before .before .before .one-at .ensures) (c .before .before .before .two-at2 .ensures) (c .before .before .four-at .ensures) (c .before .four-at2 .ensures) (c .verdict-by .ensures)
+    answer-made (now (a .reply)) (a .k) (omega arith) (c .before .before .before .before .before .two-at .ensures) (c .before .before .before .before .one-at .ensures) (c .before .before .before .two-at2 .ensures) (c .before .before .four-at .ensures) (c .before .four-at2 .ensures) (c .verdict-by .ensures)
 
 pub answer-at-spec : {M : Type 1} → statement M
 answer-at-spec =
