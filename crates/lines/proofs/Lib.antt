@@ -1,4 +1,5 @@
 -- The lines, the text.
+mod Replied
 mod Listing
 pub mod Theorems
 mod Printing

@@ -2,35 +2,16 @@
 use Prim.Native.Nat.{ℕ, _+_, _*_, _≤_, _<_}
 use native.Mathlib.Omega.{arith}
 use native.Mathlib.Numerals.{add-one}
-use mathlib.Core.Path.{_≡_, refl, ap, _∙_}
-use mathlib.Core.Bool.{Bool, true, false}
+use mathlib.Core.Path.{_≡_, refl, _∙_}
 use mathlib.Core.List.{List, _++_}
 use lib.ListN.{length}
-use lib.Dec.{eqb}
-use Rattle.framing.specs.First.{_when_else_}
-use Rattle.model.specs.declared.Verdict.the-variants.{Bounded, Late, Waits}
 use Rattle.model.specs.declared.Answer.{Answer}
-use Rattle.reply.specs.Records.{idAt, verdictAt, namedAt, boundAt, roundsAt, verdictBy, answerAt}
-use Rattle.lines_each.specs.Words.{boundedWord, lateWord, waitsWord, roundsWord, lineEnd}
-use Rattle.lines_each.specs.Decimal.{decimal}
+use Rattle.reply.specs.Records.{answerAt}
 use Rattle.lines_each.specs.Written.{Written}
-use Rattle.lines_each.specs.Lines.{item, told, flowLine}
+use Rattle.lines_each.specs.Lines.{flowLine}
 use Rattle.lines_each.proofs.Chain.{chain, length-held, written-none}
-use Rattle.lines.specs.Replied.{toldAt, recordLine, recordLines}
-
--- The line of the answer that stands in record k is the line of that record.
-told-read : (is : List ℕ) (k : ℕ) → told (answerAt is k .verdict) ≡ toldAt is k
-unfolding told toldAt verdictBy _when_else_
-told-read is k = go (eqb (verdictAt is k) 0) (eqb (verdictAt is k) 1)
-  where
-    go : (a b : Bool) → told (Bounded (boundAt is k) (roundsAt is k) when a else Late (roundsAt is k) when b else Waits (namedAt is k)) ≡ ((item boundedWord (boundAt is k) ++ item roundsWord (roundsAt is k)) when a else (lateWord ++ item roundsWord (roundsAt is k)) when b else item waitsWord (namedAt is k))
-    go true b = refl
-    go false true = refl
-    go false false = refl
-
-pub line-read : (is : List ℕ) (k : ℕ) → flowLine (answerAt is k) ≡ recordLine is k
-unfolding flowLine recordLine
-line-read is k = ap (λ (t : List ℕ). decimal (idAt is k) ++ t ++ lineEnd) (told-read is k)
+use Rattle.lines.specs.Replied.{recordLine, recordLines}
+use Rattle.lines.proofs.Replied.{line-read}
 
 pub record Listing (was : List ℕ) (at : ℕ) (reply : List ℕ) (count : ℕ) (out : List ℕ) (next k : ℕ) : Type 0 where
   pub room : at + 48 * count + 32 ≤ length was

@@ -28,7 +28,7 @@ use Rattle.analyser.proofs.Demands.{Fine, Offered, analysed, sent-back, too-sho
 use Rattle.lines_each.specs.Lines.{meshLine, flowLine, refusalLine}
 use Rattle.lines.specs.Lines.{textBy, textOf}
 use Rattle.lines.specs.Replied.{recordLine, recordLines}
-use Rattle.lines.proofs.Listing.{line-read}
+use Rattle.lines.proofs.Replied.{line-read}
 
 -- "It reads at most 2,048 bytes of standard input, which always decides the reply": they decide the text.
 pub text-decided : (bytes : List ℕ) → textOf (take 2048 bytes) ≡ textOf bytes
