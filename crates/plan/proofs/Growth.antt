@@ -20,7 +20,7 @@ use Rattle.plan.proofs.Fields.{neither}
 
 -- what a search that found nothing says of each flow, and the other way round
 module _ (value : Flow → ℕ) (v : ℕ) where
-  none-found : (fs : List Flow) → taken (map value fs) v ≡ false → (k : ℕ) → k < length fs → eqb (value (flow fs k)) v ≡ false
+  pub none-found : (fs : List Flow) → taken (map value fs) v ≡ false → (k : ℕ) → k < length fs → eqb (value (flow fs k)) v ≡ false
   none-found [] e k h = absurd (omega arith)
   none-found (f ∷ fs) e zero h = neither (eqb (value f) v) _ e .0
   none-found (f ∷ fs) e (suc k) h = none-found fs (neither (eqb (value f) v) _ e .1) k (le-of-suc-le-suc h)

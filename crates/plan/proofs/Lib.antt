@@ -13,4 +13,7 @@ pub mod Exact
 pub mod Fuel
 pub mod Alike
 pub mod Enough
+pub mod Ranks
+pub mod Ruled
+pub mod Because
 mod Examples
