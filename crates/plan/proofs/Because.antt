@@ -1,7 +1,7 @@
 -- "No refusal is given otherwise": a plan is refused with a number and a place exactly if document 01's table gives them, said without a reader.
-use Prim.Native.Nat.{ℕ, zero, suc, _+_, _≤_, _<_}
+use Prim.Native.Nat.{ℕ, zero, suc, _+_, _<_}
 use native.Mathlib.Omega.{arith}
-use native.Mathlib.Decide.{ℕ-discrete, decLt}
+use native.Mathlib.Decide.{ℕ-discrete}
 use mathlib.Core.Path.{_≡_, refl, sym, ap, subst, _∙_}
 use mathlib.Core.List.{List, [], _∷_, _++_}
 use mathlib.Core.Logic.{_↔_, inl, inr}
@@ -10,7 +10,7 @@ use Rattle.plan_values.specs.Values.{platformAt, flowAt, blankPlatform}
 use Rattle.plan.specs.Records.{recordAt}
 use Rattle.plan.specs.Reading.{accepted, refused, records, readPlan}
 use Rattle.plan.specs.Layout.{place}
-use Rattle.plan.specs.Reasons.{start, tag, Line, header-cut, misplaced, flow-65, Holds, Leads, RefusedBecause, AcceptedBecause}
+use Rattle.plan.specs.Reasons.{start, IsPlatform, IsFlow, Line, header-cut, misplaced, Holds, Leads, RefusedBecause, AcceptedBecause}
 use Rattle.plan_values.specs.declared.Platform.{Platform}
 use Rattle.plan_values.specs.declared.Flow.{Flow}
 use Rattle.plan.specs.declared.Reading.{Reading}
@@ -21,7 +21,9 @@ use Rattle.plan_table.specs.declared.Kind.the-variants.{PlatformRecord, FlowRec
 use Rattle.plan.proofs.Order.{fault-ends, platform-leads, flow-leads, end-accepts}
 use Rattle.plan.proofs.Growth.{longer, each-more}
 use Rattle.plan.proofs.Ranks.{order, one-reason, not-both}
-use Rattle.plan.proofs.Ruled.{Seen, Ruled, ruled, decides, faultless}
+use Rattle.plan.proofs.Ruled.{Ruled, decides, faultless}
+use Rattle.plan.proofs.RuledBody.{Seen}
+use Rattle.plan.proofs.RuledFrame.{ruled}
 
 -- what a reading of the bytes may come to
 pub data Judged (s : List ℕ) : Reading → Type 0 where
@@ -31,7 +33,6 @@ pub data Judged (s : List ℕ) : Reading → Type 0 where
 -- ---- in front of record n, which starts at `at`
 record Stands (s : List ℕ) (n : ℕ) (p : Platform) (fs : List Flow) (at : ℕ) : Type 0 where
   here : at ≡ start n
-  few : n ≤ 65
   seen : Seen s n p fs
   before : (m : ℕ) → m < n → Leads s m
 
@@ -57,7 +58,7 @@ module _ {s : List ℕ} {n : ℕ} {p : Platform} {fs : List Flow} {at : ℕ} (w 
   refuses-here : {number pl : ℕ} → recordAt s at p fs ≡ Fault number pl → RefusedBecause s number pl
   refuses-here e =
       let d = decides s n (by-lines e) in
-      record { n = n; few = w .few; before = w .before; line = d .line; holds = d .holds; first = λ l h. d .first l (omega arith) h; number-is = d .number-is; place-is = d .place-is }
+      record { n = n; before = w .before; line = d .line; holds = d .holds; first = λ l h. d .first l (omega arith) h; number-is = d .number-is; place-is = d .place-is }
 
   accepts-here : recordAt s at p fs ≡ Passed EndRecord → AcceptedBecause s
   accepts-here e = let (f, t) = faultless s n (by-lines e) in record { n = n; before = w .before; faultless = f; end = t }
@@ -69,12 +70,11 @@ module _ {s : List ℕ} {n : ℕ} {p : Platform} {fs : List Flow} {at : ℕ} (w 
       let o : at ≡ 0 = w .here ∙ ap start z in
       record {
         here = omega arith;
-        few = omega arith;
         seen = record { platform = λ h. rw o; count = omega (arith, w .seen .count); each = w .seen .each };
         before = λ m h. before-more (record { faultless = f; no-end = λ x. omega arith }) m (omega arith);
       }
     where
-      go : Dec (n ≡ 0) → ((l : Line) → Holds s n l → ⊥) → tag s n ≡ 0x01 → n ≡ 0
+      go : Dec (n ≡ 0) → ((l : Line) → Holds s n l → ⊥) → IsPlatform s n → n ≡ 0
       go (yes z) f t = z
       go (no d) f t = absurd (f misplaced (inr (omega arith, t)))
 
@@ -82,11 +82,9 @@ module _ {s : List ℕ} {n : ℕ} {p : Platform} {fs : List Flow} {at : ℕ} (w 
   flow-step e =
       let (f, t) = faultless s n (by-lines e) in
       let h : 0 < n = go (ℕ-discrete n 0) f t in
-      let room : n < 65 = go-room (decLt n 65) f t in
       let c : length fs + 1 ≡ n = omega (arith, w .seen .count) in
       record {
         here = omega (arith, w .here, start-next n h);
-        few = omega arith;
         seen = record {
           platform = λ x. w .seen .platform h;
           count = omega (arith, longer fs (flowAt s at));
@@ -95,13 +93,9 @@ module _ {s : List ℕ} {n : ℕ} {p : Platform} {fs : List Flow} {at : ℕ} (w 
         before = before-more (record { faultless = f; no-end = λ x. omega arith });
       }
     where
-      go : Dec (n ≡ 0) → ((l : Line) → Holds s n l → ⊥) → tag s n ≡ 0x02 → 0 < n
+      go : Dec (n ≡ 0) → ((l : Line) → Holds s n l → ⊥) → IsFlow s n → 0 < n
       go (yes z) f t = absurd (f misplaced (inl (z, λ x. omega arith)))
       go (no d) f t = omega arith
-
-      go-room : Dec (n < 65) → ((l : Line) → Holds s n l → ⊥) → tag s n ≡ 0x02 → n < 65
-      go-room (yes h) f t = h
-      go-room (no d) f t = absurd (f flow-65 (t, omega arith))
 
 -- ---- the reading, record by record
 module _ (s : List ℕ) where
@@ -116,7 +110,7 @@ module _ (s : List ℕ) where
 
   -- without turns left no byte is left
   none-left : (n : ℕ) (p : Platform) (fs : List Flow) (at : ℕ) → Stands s n p fs at → length s < at → RefusedBecause s 1 at
-  none-left n p fs at w h = record { n = n; few = w .few; before = w .before; line = header-cut; holds = omega (arith, w .here); first = λ l x. absurd (omega arith); number-is = refl; place-is = omega (arith, w .here) }
+  none-left n p fs at w h = record { n = n; before = w .before; line = header-cut; holds = omega (arith, w .here); first = λ l x. absurd (omega arith); number-is = refl; place-is = omega (arith, w .here) }
 
   reads : (turns : ℕ) → Reads turns
   unfolding records
@@ -127,7 +121,7 @@ module _ (s : List ℕ) where
   unfolding readPlan
   judged =
       reads (suc (length s)) 0 blankPlatform [] 0
-      (record { here = refl; few = omega arith; seen = record { platform = λ h. absurd (omega arith); count = refl; each = λ j h. absurd (omega arith) }; before = λ m h. absurd (omega arith) })
+      (record { here = refl; seen = record { platform = λ h. absurd (omega arith); count = refl; each = λ j h. absurd (omega arith) }; before = λ m h. absurd (omega arith) })
       (omega arith)
 
   -- ---- what the outcome says

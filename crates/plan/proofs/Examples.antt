@@ -11,7 +11,6 @@ use Rattle.plan_table.specs.Table.{tagOf, platformFields, flowFields, width, lo
 use Rattle.plan_table.specs.declared.Field.{Field}
 use Rattle.plan_table.specs.declared.Limit.{Limit}
 use Rattle.plan_table.specs.declared.Limit.the-variants.{UpTo, BelowNodes, UpToPeriod}
-use Rattle.plan_values.specs.Values.{blankFlow}
 use Rattle.plan_checks.specs.Checks.{headerAt, taggedAt, frameAt, clashAt, tailAt, restAt}
 use Rattle.plan.specs.Records.{fieldsFrom, _then_, bodyAt, recordAt}
 use Rattle.plan.specs.Reading.{accepted, refused, after, records, readPlan}
@@ -19,8 +18,6 @@ use Rattle.plan.specs.PlanP.{P}
 use Rattle.framing.specs.declared.returned.Outcome.{Outcome}
 use Rattle.framing.specs.declared.returned.Outcome.the-variants.{Accepted, Refused}
 use Rattle.plan_checks.specs.declared.Limits.{Limits}
-use Rattle.plan_checks.specs.declared.Checked.{Checked}
-use Rattle.plan_checks.specs.declared.Checked.the-variants.{Fault}
 
 -- P is accepted, with these values
 plan-P : readPlan P ≡ accepted (record { columns = 6; rows = 1; link = 1; routing = 0; buffer = 10; method = 3 })
@@ -31,10 +28,10 @@ unfolding tagOf headerAt taggedAt frameAt fieldsFrom clashAt tailAt restAt _then
 plan-P = refl
 
 -- P with bytes written over it from a place on
-bytes : ℕ → List ℕ → List ℕ
+unfoldable pub bytes : ℕ → List ℕ → List ℕ
 bytes at new = put P at new
 
-outcomes : List (List ℕ) → List Outcome
+unfoldable pub outcomes : List (List ℕ) → List Outcome
 outcomes = map (λ s. readPlan s .outcome)
 
 -- 1, 2, 3, 4: the frame
@@ -147,31 +144,3 @@ clashes :
     ≡ Refused 7 35 ∷ Refused 8 60 ∷ Refused 9 17 ∷ Refused 9 63 ∷ Refused 10 81 ∷ Refused 10 12 ∷ []
 unfolding tagOf headerAt taggedAt frameAt fieldsFrom clashAt tailAt restAt _then_ bodyAt recordAt accepted refused after records readPlan _when_else_ outcomes
 clashes = refl
-
--- of two faults in one record the first in document 01's order decides, of two records the first
-orders :
-    outcomes
-    (set (drop 9 P) 0 0x03  -- 2 before 4
-    ∷ set (drop 9 P) 1 1  -- 4 before 3
-    ∷ set (take 8 P) 2 7  -- 3 before 1
-    ∷ set (set P 7 65) 3 0  -- field by field: 20 before 24
-    ∷ bytes 20 (0 ∷ 0 ∷ 0 ∷ 0 ∷ [])  -- 35 before 38, the deadline being above that period
-    ∷ put (set P 27 0) 28 (0x3B ∷ 0x9A ∷ 0xCA ∷ 0x01 ∷ [])  -- 36 before 37
-    ∷ put (set P 27 201) 28 (0x3B ∷ 0x9A ∷ 0xCA ∷ 0x01 ∷ [])  -- 38 before 37
-    ∷ put (set P 17 4) 28 (0x3B ∷ 0x9A ∷ 0xCA ∷ 0x01 ∷ [])  -- the fields before 9
-    ∷ set (set P 36 2) 40 0  -- 9 before 7
-    ∷ set (set P 38 1) 36 2  -- 7 before 8
-    ∷ set (set P 17 4) 7 65  -- the platform before a flow
-    ∷ set (P ++ 0 ∷ []) 63 1  -- a flow before 10
-    ∷ [])
-    ≡ Refused 2 0 ∷ Refused 4 0 ∷ Refused 3 1 ∷ Refused 20 3 ∷ Refused 35 20 ∷ Refused 36 24 ∷ Refused 38 24 ∷ Refused 37 28 ∷ Refused 9 40 ∷ Refused 7 35 ∷ Refused 24 7 ∷ Refused 9 63 ∷ []
-unfolding tagOf headerAt taggedAt frameAt fieldsFrom clashAt tailAt restAt _then_ bodyAt recordAt accepted refused after records readPlan _when_else_ outcomes bytes
-orders = refl
-
--- 6: the flow record of P behind 64 flows: a cut body before 6, and 6 before its fields
-behind-64 : List ℕ → Checked
-behind-64 s = recordAt s 9 (record { columns = 6; rows = 1; link = 1; routing = 0; buffer = 10; method = 3 }) (replicate 64 blankFlow)
-
-sixth : map behind-64 (take 32 P ∷ take 31 P ∷ set (take 32 P) 16 6 ∷ []) ≡ Fault 6 9 ∷ Fault 1 9 ∷ Fault 6 9 ∷ []
-unfolding tagOf headerAt taggedAt frameAt fieldsFrom clashAt tailAt restAt _then_ bodyAt recordAt accepted refused after records readPlan _when_else_ behind-64
-sixth = refl

@@ -14,6 +14,9 @@ pub mod Fuel
 pub mod Alike
 pub mod Enough
 pub mod Ranks
-pub mod Ruled
+mod Ruled
+mod RuledBody
+mod RuledFrame
 pub mod Because
 mod Examples
+mod Neighbours

@@ -5,11 +5,11 @@ use native.Mathlib.Decide.{ℕ-discrete, decLt}
 use mathlib.Core.Path.{_≡_, refl, sym, ap, subst, _∙_}
 use mathlib.Core.List.{List, [], _∷_}
 use lib.ListN.{length, getD}
-use Rattle.plan.specs.Reasons.{start, Line, header-cut, unknown-tag, misplaced, wrong-length, body-cut, flow-65, columns-outside, rows-outside, link-outside, routing-outside, buffer-outside, method-outside, id-outside, priority-outside, source-outside, destination-outside, flits-outside, period-outside, deadline-zero, deadline-above, jitter-outside, nowhere, id-again, priority-again, byte-behind, rank, numberOf, offsetOf, Holds, RefusedBecause, AcceptedBecause}
+use Rattle.plan.specs.Reasons.{start, Line, header-cut, unknown-tag, misplaced, wrong-length, body-cut, flow-65, columns-outside, rows-outside, link-outside, routing-outside, buffer-outside, method-outside, id-outside, priority-outside, source-outside, destination-outside, flits-outside, period-outside, deadline-zero, deadline-above, jitter-outside, source-equals-destination, id-equals-earlier, priority-equals-earlier, byte-after-end, rank, numberOf, offsetOf, Holds, RefusedBecause, AcceptedBecause}
 
 -- ---- the lines in their order
 abbrev pub flow-rests : List Line
-flow-rests = nowhere ∷ id-again ∷ priority-again ∷ byte-behind ∷ []
+flow-rests = source-equals-destination ∷ id-equals-earlier ∷ priority-equals-earlier ∷ byte-after-end ∷ []
 
 abbrev pub flow-fields : List Line
 flow-fields = id-outside ∷ priority-outside ∷ source-outside ∷ destination-outside ∷ flits-outside ∷ period-outside ∷ deadline-zero ∷ deadline-above ∷ jitter-outside ∷ flow-rests
@@ -49,10 +49,10 @@ ranked-is period-outside = refl
 ranked-is deadline-zero = refl
 ranked-is deadline-above = refl
 ranked-is jitter-outside = refl
-ranked-is nowhere = refl
-ranked-is id-again = refl
-ranked-is priority-again = refl
-ranked-is byte-behind = refl
+ranked-is source-equals-destination = refl
+ranked-is id-equals-earlier = refl
+ranked-is priority-equals-earlier = refl
+ranked-is byte-after-end = refl
 
 -- ---- a line by its rank
 past : (ls : List Line) (i : ℕ) → length ls ≤ i → getD ls i header-cut ≡ header-cut

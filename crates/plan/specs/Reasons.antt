@@ -34,12 +34,22 @@ four s n offset = fourAt s (start n + offset)
 abbrev pub nodes : List ℕ → ℕ
 nodes s = oneAt s 3 * oneAt s 4
 
+-- Column "Tag": "01 platform", "02 flow", "7F end".
+abbrev pub IsPlatform : List ℕ → ℕ → Type 0
+IsPlatform s n = tag s n ≡ 0x01
+
+abbrev pub IsFlow : List ℕ → ℕ → Type 0
+IsFlow s n = tag s n ≡ 0x02
+
+abbrev pub IsEnd : List ℕ → ℕ → Type 0
+IsEnd s n = tag s n ≡ 0x7F
+
 -- The lines of the table: 1 has two conditions, and 5 is said field by field with document 02's numbers.
 pub data Line : Type 0 where
   header-cut unknown-tag misplaced wrong-length body-cut flow-65 : Line
   columns-outside rows-outside link-outside routing-outside buffer-outside method-outside : Line
   id-outside priority-outside source-outside destination-outside flits-outside period-outside deadline-zero deadline-above jitter-outside : Line
-  nowhere id-again priority-again byte-behind : Line
+  source-equals-destination id-equals-earlier priority-equals-earlier byte-after-end : Line
 
 -- A line's rank ("Within a record the order is: header complete (1), 2, 4, 3, body complete (1), 6, then 5 field by field, 9, 7, 8 .. Then 10"),
 -- its number, and its place, counted from the tag.
@@ -65,10 +75,10 @@ entry period-outside = (17, 35, 11)
 entry deadline-zero = (18, 36, 15)
 entry deadline-above = (19, 38, 15)
 entry jitter-outside = (20, 37, 19)
-entry nowhere = (21, 9, 8)  -- "the destination"
-entry id-again = (22, 7, 3)  -- "the id"
-entry priority-again = (23, 8, 5)  -- "the priority"
-entry byte-behind = (24, 10, 3)  -- "that byte"
+entry source-equals-destination = (21, 9, 8)  -- "the destination"
+entry id-equals-earlier = (22, 7, 3)  -- "the id"
+entry priority-equals-earlier = (23, 8, 5)  -- "the priority"
+entry byte-after-end = (24, 10, 3)  -- "that byte"
 
 abbrev pub rank : Line → ℕ
 rank l = entry l .0
@@ -84,50 +94,50 @@ abbrev pub Outside : ℕ → ℕ → ℕ → Type 0
 Outside lowest highest value = Within lowest highest value → ⊥
 
 -- Some flow before record n has the same number at this offset.
-abbrev pub Again : List ℕ → ℕ → ℕ → Type 0
-Again s n offset = (j : ℕ) × (suc j < n) × (two s (suc j) offset ≡ two s n offset)
+abbrev pub EqualsEarlier : List ℕ → ℕ → ℕ → Type 0
+EqualsEarlier s n offset = (j : ℕ) × (suc j < n) × (two s (suc j) offset ≡ two s n offset)
 
--- Column "Given when", of record n. Tags are 01 platform, 02 flow, 7F end, and lengths 6, 20, 0.
+-- Column "Given when", of record n.
 abbrev pub Holds : List ℕ → ℕ → Line → Type 0
 -- "under 3 bytes remain where a record must start"
 Holds s n header-cut = length s < start n + 3
 -- "unknown tag"
-Holds s n unknown-tag = (tag s n ≢ 0x01) × (tag s n ≢ 0x02) × (tag s n ≢ 0x7F)
+Holds s n unknown-tag = (IsPlatform s n → ⊥) × (IsFlow s n → ⊥) × (IsEnd s n → ⊥)
 -- "first record isn't a platform, or a platform comes later"
-Holds s n misplaced = ((n ≡ 0) × (tag s n ≢ 0x01)) ⊎ ((0 < n) × (tag s n ≡ 0x01))
--- "length is not the tag's"
-Holds s n wrong-length = ((tag s n ≡ 0x01) × (size s n ≢ 6)) ⊎ (((tag s n ≡ 0x02) × (size s n ≢ 20)) ⊎ ((tag s n ≡ 0x7F) × (size s n ≢ 0)))
+Holds s n misplaced = ((n ≡ 0) × (IsPlatform s n → ⊥)) ⊎ ((0 < n) × IsPlatform s n)
+-- "length is not the tag's": column "Length" has 6, 20 and 0
+Holds s n wrong-length = (IsPlatform s n × (size s n ≢ 6)) ⊎ ((IsFlow s n × (size s n ≢ 20)) ⊎ (IsEnd s n × (size s n ≢ 0)))
 -- "or its body is cut"
 Holds s n body-cut = length s < start n + 3 + size s n
 -- "a 65th flow": behind the platform and 64 flows
-Holds s n flow-65 = (tag s n ≡ 0x02) × (65 ≤ n)
+Holds s n flow-65 = IsFlow s n × (65 ≤ n)
 -- "columns (1): 1..8; rows (1): 1..8; link cycles (1): 1..16; routing cycles (1): 0..16; buffer flits (1): 1..64; method (1): 0..3"
-Holds s n columns-outside = (tag s n ≡ 0x01) × Outside 1 8 (one s n 3)
-Holds s n rows-outside = (tag s n ≡ 0x01) × Outside 1 8 (one s n 4)
-Holds s n link-outside = (tag s n ≡ 0x01) × Outside 1 16 (one s n 5)
-Holds s n routing-outside = (tag s n ≡ 0x01) × Outside 0 16 (one s n 6)
-Holds s n buffer-outside = (tag s n ≡ 0x01) × Outside 1 64 (one s n 7)
-Holds s n method-outside = (tag s n ≡ 0x01) × Outside 0 3 (one s n 8)
+Holds s n columns-outside = IsPlatform s n × Outside 1 8 (one s n 3)
+Holds s n rows-outside = IsPlatform s n × Outside 1 8 (one s n 4)
+Holds s n link-outside = IsPlatform s n × Outside 1 16 (one s n 5)
+Holds s n routing-outside = IsPlatform s n × Outside 0 16 (one s n 6)
+Holds s n buffer-outside = IsPlatform s n × Outside 1 64 (one s n 7)
+Holds s n method-outside = IsPlatform s n × Outside 0 3 (one s n 8)
 -- "id (2): 0..65534; priority (2): 1..65535; source (1) and destination (1): below columns x rows; flits (2): 1..65535; period (4): 1..1,000,000,000"
-Holds s n id-outside = (tag s n ≡ 0x02) × Outside 0 65534 (two s n 3)
-Holds s n priority-outside = (tag s n ≡ 0x02) × Outside 1 65535 (two s n 5)
-Holds s n source-outside = (tag s n ≡ 0x02) × (nodes s ≤ one s n 7)
-Holds s n destination-outside = (tag s n ≡ 0x02) × (nodes s ≤ one s n 8)
-Holds s n flits-outside = (tag s n ≡ 0x02) × Outside 1 65535 (two s n 9)
-Holds s n period-outside = (tag s n ≡ 0x02) × Outside 1 1_000_000_000 (four s n 11)
+Holds s n id-outside = IsFlow s n × Outside 0 65534 (two s n 3)
+Holds s n priority-outside = IsFlow s n × Outside 1 65535 (two s n 5)
+Holds s n source-outside = IsFlow s n × (nodes s ≤ one s n 7)
+Holds s n destination-outside = IsFlow s n × (nodes s ≤ one s n 8)
+Holds s n flits-outside = IsFlow s n × Outside 1 65535 (two s n 9)
+Holds s n period-outside = IsFlow s n × Outside 1 1_000_000_000 (four s n 11)
 -- "deadline (4): 1..period": "36 is deadline zero, 38 is deadline above period"
-Holds s n deadline-zero = (tag s n ≡ 0x02) × (four s n 15 ≡ 0)
-Holds s n deadline-above = (tag s n ≡ 0x02) × (four s n 11 < four s n 15)
+Holds s n deadline-zero = IsFlow s n × (four s n 15 ≡ 0)
+Holds s n deadline-above = IsFlow s n × (four s n 11 < four s n 15)
 -- "jitter (4): 0..1,000,000,000"
-Holds s n jitter-outside = (tag s n ≡ 0x02) × Outside 0 1_000_000_000 (four s n 19)
+Holds s n jitter-outside = IsFlow s n × Outside 0 1_000_000_000 (four s n 19)
 -- "source equals destination"
-Holds s n nowhere = (tag s n ≡ 0x02) × (one s n 7 ≡ one s n 8)
+Holds s n source-equals-destination = IsFlow s n × (one s n 7 ≡ one s n 8)
 -- "id equal to an earlier flow's"
-Holds s n id-again = (tag s n ≡ 0x02) × Again s n 3
+Holds s n id-equals-earlier = IsFlow s n × EqualsEarlier s n 3
 -- "priority equal to an earlier flow's"
-Holds s n priority-again = (tag s n ≡ 0x02) × Again s n 5
+Holds s n priority-equals-earlier = IsFlow s n × EqualsEarlier s n 5
 -- "a byte after the end record"
-Holds s n byte-behind = (tag s n ≡ 0x7F) × (start n + 3 < length s)
+Holds s n byte-after-end = IsEnd s n × (start n + 3 < length s)
 
 -- "No refusal is given otherwise": no line holds of record n.
 abbrev pub Faultless : List ℕ → ℕ → Type 0
@@ -136,12 +146,11 @@ Faultless s n = (l : Line) → Holds s n l → ⊥
 -- .. and it is not the end record, so that a record must follow it.
 pub record Leads (s : List ℕ) (n : ℕ) : Type 0 where
   pub faultless : Faultless s n
-  pub no-end : tag s n ≢ 0x7F
+  pub no-end : IsEnd s n → ⊥
 
 -- "The first record in fault decides", and within it the first line in the order.
 pub record RefusedBecause (s : List ℕ) (number pl : ℕ) : Type 0 where
   pub n : ℕ  -- the record in fault
-  pub few : n ≤ 65  -- behind the platform and 64 flows at most
   pub before : (m : ℕ) → m < n → Leads s m
   pub line : Line
   pub holds : Holds s n line
@@ -154,4 +163,4 @@ pub record AcceptedBecause (s : List ℕ) : Type 0 where
   pub n : ℕ
   pub before : (m : ℕ) → m < n → Leads s m
   pub faultless : Faultless s n
-  pub end : tag s n ≡ 0x7F
+  pub end : IsEnd s n
