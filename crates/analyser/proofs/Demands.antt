@@ -1,6 +1,6 @@
 -- The tender's three conditions of acceptance, of any bytes offered as a plan and any buffer lent for the reply.
 -- `analyse` promises to return `returned bytes (length held)` and to leave `left bytes held` in the buffer that held `held`.
--- The words of these statements: `Laid`, `Legal` and `Listed` of plan's specs, `Right` of model's specs/Rules, and specs/Records of
+-- The words of these statements: `Laid`, `Legal`, `RefusedBecause` and `Listed` of plan's specs, `Right` of model's specs/Rules, and specs/Records of
 -- reply, the places in a record, and of this crate.
 -- By document 02 (L3) the deadline of demands 2 and 3 is the deadline less the flow's own jitter, `limit` of model's specs/Latency; without jitter it is
 -- the deadline (`no-jitter` of model's proofs/Ticks).
@@ -21,9 +21,11 @@ use Rattle.plan.specs.declared.Reading.{Reading}
 use Rattle.plan.specs.Legal.{Legal, flow}
 use Rattle.plan.specs.Layout.{Laid}
 use Rattle.plan.specs.Refusals.{Listed}
-use Rattle.plan.specs.Reading.{accepted, refused, readPlan}
+use Rattle.plan.specs.Reasons.{RefusedBecause}
+use Rattle.plan.specs.Reading.{accepted, readPlan}
 use Rattle.plan.proofs.Answered.{Lawful, accepts, refuses, answered}
 use Rattle.plan.proofs.Exact.{accepted-exactly}
+use Rattle.plan.proofs.Because.{refused-exactly}
 use Rattle.plan.proofs.Numbered.{never}
 use Rattle.plan.proofs.Enough.{decided}
 use Rattle.recurrence.specs.Rounding.{up}
@@ -59,8 +61,9 @@ pub data Offered (bytes held : List ℕ) : Returned → List ℕ → Type 0 wher
       {p : Platform} {fs : List Flow} → Fine bytes held p fs → (answer : Flow → Verdict) → Right p fs answer →
       Offered bytes held (acceptedWith (16 * length fs + 3)) (replyBytes (answerLines fs answer) ++ drop (16 * length fs + 3) held)
   -- "or, only for a fault listed in document 01, a numbered refusal with its place": "On refusal the reply buffer is untouched".
-  -- The number says which record and which field is in fault, and the place is there.
-  sent-back : (number place : ℕ) → readPlan bytes ≡ refused number place → Listed number place → place ≤ length bytes → Offered bytes held (refusedWith number place) held
+  -- The first line of the table that holds of the first record in fault gives it; the number says which record and which field that is, and the place
+  -- is there.
+  sent-back : (number place : ℕ) → RefusedBecause bytes number place → Listed number place → place ≤ length bytes → Offered bytes held (refusedWith number place) held
   -- "11 | the reply buffer is too short | 0"
   too-short : (p : Platform) (fs : List Flow) → Laid bytes p fs → Legal p fs → length held < 16 * length fs + 3 → Offered bytes held (refusedWith 11 0) held
 
@@ -122,7 +125,7 @@ module _ (bytes held : List ℕ) where
 
       go : (r : Reading) → readPlan bytes ≡ r → Lawful bytes r → Offered bytes held (returned bytes (length held)) (left bytes held)
       go r e (accepts p fs laid legal) = by-room p fs laid legal e (decLt (length held) (16 * length fs + 3))
-      go r e (refuses number place n h) = settled (refused-returned bytes held e) (sent-back number place e n h)
+      go r e (refuses number place n h) = settled (refused-returned bytes held e) (sent-back number place (refused-exactly bytes number place .0 e) n h)
 
   module _ {p : Platform} {fs : List Flow} (f : Fine bytes held p fs) where
     is-plan : readPlan bytes ≡ accepted p fs
@@ -228,13 +231,25 @@ module _ (bytes held : List ℕ) where
       go (sent-back number place q n h) e = absurd (never 0 refl n e)
       go (too-short p fs laid legal h) e = absurd (omega arith)
 
+  -- .. and of the plan itself a refusal is given exactly for the first line of the table that holds of the first record in fault; 11 is the buffer's.
+  pub refusal-exactly : (number place : ℕ) → number ≢ 0 → number ≢ 11 → (returned bytes (length held) ≡ refusedWith number place) ↔ RefusedBecause bytes number place
+  refusal-exactly number place not-0 not-11 = (go demand-1, λ w. sym (refused-returned bytes held (refused-exactly bytes number place .1 w) .0))
+    where
+      go : {r : Returned} {is : List ℕ} → Offered bytes held r is → r ≡ refusedWith number place → RefusedBecause bytes number place
+      go (analysed f answer right) e = absurd (not-0 (sym (ap (λ (r : Returned). r .number) e)))
+      go (sent-back n at w l h) e =
+          let a : n ≡ number = ap (λ (r : Returned). r .number) e in
+          let b : at ≡ place = ap (λ (r : Returned). r .value) e in
+          rw (← a, ← b) w
+      go (too-short p fs laid legal h) e = absurd (not-11 (sym (ap (λ (r : Returned). r .number) e)))
+
   -- What `analyse` promises is what an offer comes to, no less and no more.
   pub promised-exactly : (r : Returned) (is : List ℕ) → ((r ≡ returned bytes (length held)) × (is ≡ left bytes held)) ↔ Offered bytes held r is
   promised-exactly r is = ((λ (e, f). rw (e, f) demand-1), go)
     where
       go : {r : Returned} {is : List ℕ} → Offered bytes held r is → Replied bytes held r is
       go (analysed {p} {fs} f answer right) = rw (right-lines p fs (f .legal) answer right) (replies f)
-      go (sent-back number place e n h) = refused-returned bytes held e
+      go (sent-back number place w n h) = refused-returned bytes held (refused-exactly bytes number place .1 w)
       go (too-short p fs laid legal h) = short-returned bytes held p fs (accepted-exactly bytes p fs .1 (laid, legal)) h
 
   -- "two results allowed for one input coincide"
