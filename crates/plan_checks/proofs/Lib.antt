@@ -2,3 +2,4 @@ mod Framing
 mod Searches
 mod Fits
 mod Rests
+mod Examples

@@ -1,0 +1,40 @@
+-- The order of a frame's refusals, computed: "header complete (1), 2, 4, 3, body complete (1), 6". Each record has two faults, neighbours in that order.
+use Prim.Native.Nat.{ℕ}
+use mathlib.Core.Path.{_≡_, refl}
+use mathlib.Core.List.{List, [], _∷_, map}
+use Rattle.framing.specs.First.{_when_else_}
+use Rattle.plan_table.specs.Table.{tagOf}
+use Rattle.plan_checks.specs.Checks.{headerAt, taggedAt, frameAt}
+use Rattle.plan_checks.specs.declared.Checked.{Checked}
+use Rattle.plan_checks.specs.declared.Checked.the-variants.{Fault}
+
+-- records that start the plan, and records behind two bytes and 64 flows
+first : List (List ℕ) → List Checked
+first = map (λ s. frameAt s 0 0)
+
+later : List (List ℕ) → List Checked
+later = map (λ s. frameAt (0x00 ∷ 0x00 ∷ s) 2 64)
+
+first-frames :
+    first
+    ((0x03 ∷ []) ∷ (0x03 ∷ 0x00 ∷ []) ∷ (0x00 ∷ []) ∷ (0xFF ∷ 0x00 ∷ [])  -- 1 before 2: an unknown tag in a cut header
+    ∷ (0x02 ∷ []) ∷ (0x7F ∷ 0x00 ∷ [])  -- 1 before 4
+    ∷ (0x03 ∷ 0x00 ∷ 0x00 ∷ [])  -- 2 before 4
+    ∷ (0x02 ∷ 0x00 ∷ 0x13 ∷ [])  -- 4 before 3
+    ∷ (0x01 ∷ 0x00 ∷ 0x07 ∷ [])  -- 3 before 1
+    ∷ [])
+    ≡ Fault 1 0 ∷ Fault 1 0 ∷ Fault 1 0 ∷ Fault 1 0 ∷ Fault 1 0 ∷ Fault 1 0 ∷ Fault 2 0 ∷ Fault 4 0 ∷ Fault 3 1 ∷ []
+unfolding tagOf headerAt taggedAt frameAt _when_else_ first
+first-frames = refl
+
+later-frames :
+    later
+    ([] ∷ (0x03 ∷ []) ∷ (0x03 ∷ 0x00 ∷ []) ∷ (0x00 ∷ []) ∷ (0xFF ∷ 0x00 ∷ [])  -- 1 before 2
+    ∷ (0x01 ∷ [])  -- 1 before 4
+    ∷ (0x01 ∷ 0x00 ∷ 0x07 ∷ [])  -- 4 before 3
+    ∷ (0x02 ∷ 0x00 ∷ 0x13 ∷ []) ∷ (0x7F ∷ 0x00 ∷ 0x01 ∷ [])  -- 3 before 1
+    ∷ (0x02 ∷ 0x00 ∷ 0x14 ∷ [])  -- 1 before 6
+    ∷ [])
+    ≡ Fault 1 2 ∷ Fault 1 2 ∷ Fault 1 2 ∷ Fault 1 2 ∷ Fault 1 2 ∷ Fault 1 2 ∷ Fault 4 2 ∷ Fault 3 3 ∷ Fault 3 3 ∷ Fault 1 2 ∷ []
+unfolding tagOf headerAt taggedAt frameAt _when_else_ later
+later-frames = refl
