@@ -10,7 +10,7 @@ use Rattle.plan_values.specs.Values.{platformAt, flowAt, blankPlatform}
 use Rattle.plan.specs.Records.{recordAt}
 use Rattle.plan.specs.Reading.{accepted, refused, records, readPlan}
 use Rattle.plan.specs.Layout.{place}
-use Rattle.plan.specs.Reasons.{start, IsPlatform, IsFlow, Line, header-cut, misplaced, Holds, Leads, RefusedBecause, AcceptedBecause}
+use Rattle.plan.specs.Reasons.{start, IsPlatform, IsFlow, header-cut, misplaced, Faultless, Leads, RefusedBecause, AcceptedBecause}
 use Rattle.plan_values.specs.declared.Platform.{Platform}
 use Rattle.plan_values.specs.declared.Flow.{Flow}
 use Rattle.plan.specs.declared.Reading.{Reading}
@@ -26,7 +26,7 @@ use Rattle.plan.proofs.RuledBody.{Seen}
 use Rattle.plan.proofs.RuledFrame.{ruled}
 
 -- what a reading of the bytes may come to
-pub data Judged (s : List ℕ) : Reading → Type 0 where
+data Judged (s : List ℕ) : Reading → Type 0 where
   accepts : (p : Platform) (fs : List Flow) → AcceptedBecause s → Judged s (accepted p fs)
   refuses : (number pl : ℕ) → RefusedBecause s number pl → Judged s (refused number pl)
 
@@ -74,7 +74,7 @@ module _ {s : List ℕ} {n : ℕ} {p : Platform} {fs : List Flow} {at : ℕ} (w 
         before = λ m h. before-more (record { faultless = f; no-end = λ x. omega arith }) m (omega arith);
       }
     where
-      go : Dec (n ≡ 0) → ((l : Line) → Holds s n l → ⊥) → IsPlatform s n → n ≡ 0
+      go : Dec (n ≡ 0) → Faultless s n → IsPlatform s n → n ≡ 0
       go (yes z) f t = z
       go (no d) f t = absurd (f misplaced (inr (omega arith, t)))
 
@@ -93,7 +93,7 @@ module _ {s : List ℕ} {n : ℕ} {p : Platform} {fs : List Flow} {at : ℕ} (w 
         before = before-more (record { faultless = f; no-end = λ x. omega arith });
       }
     where
-      go : Dec (n ≡ 0) → ((l : Line) → Holds s n l → ⊥) → IsFlow s n → 0 < n
+      go : Dec (n ≡ 0) → Faultless s n → IsFlow s n → 0 < n
       go (yes z) f t = absurd (f misplaced (inl (z, λ x. omega arith)))
       go (no d) f t = omega arith
 
@@ -117,7 +117,7 @@ module _ (s : List ℕ) where
   reads zero n p fs at w h = refuses 1 at (none-left n p fs at w (omega arith))
   reads (suc turns) n p fs at w h = by-record turns (reads turns) n p fs at w h (recordAt s at p fs) refl
 
-  pub judged : Judged s (readPlan s)
+  judged : Judged s (readPlan s)
   unfolding readPlan
   judged =
       reads (suc (length s)) 0 blankPlatform [] 0

@@ -13,7 +13,7 @@ pub mod Exact
 pub mod Fuel
 pub mod Alike
 pub mod Enough
-pub mod Ranks
+mod Ranks
 mod Ruled
 mod RuledBody
 mod RuledFrame

@@ -1,5 +1,5 @@
 -- Of two faults the first in document 01's order decides: examples for each two neighbours of the order, both faults in one record.
-use Prim.Native.Nat.{ℕ, _<_}
+use Prim.Native.Nat.{ℕ}
 use native.Mathlib.Omega.{arith}
 use mathlib.Core.Path.{_≡_, refl}
 use mathlib.Core.List.{List, [], _∷_, _++_, map}
