@@ -4,6 +4,7 @@ use native.Mathlib.Omega.{arith}
 use native.Mathlib.Decide.{ℕ-discrete, decLt}
 use mathlib.Core.Path.{_≡_, refl, sym, ap, subst, _∙_}
 use mathlib.Core.List.{List, [], _∷_}
+use mathlib.Core.Logic.{inr}
 use lib.ListN.{length, getD}
 use Rattle.plan.specs.Reasons.{start, Line, header-cut, unknown-tag, misplaced, wrong-length, body-cut, flow-65, columns-outside, rows-outside, link-outside, routing-outside, buffer-outside, method-outside, id-outside, priority-outside, source-outside, destination-outside, flits-outside, period-outside, deadline-zero, deadline-above, jitter-outside, source-equals-destination, id-equals-earlier, priority-equals-earlier, byte-after-end, rank, numberOf, offsetOf, Holds, RefusedBecause, AcceptedBecause}
 
@@ -91,6 +92,14 @@ module _ (s : List ℕ) where
       let r : rank (w .line) ≡ rank (v .line) = omega (arith, not-sooner w v e, not-sooner v w (sym e)) in
       let l = same-rank (w .line) (v .line) r in
       (w .number-is ∙ ap numberOf l ∙ sym (v .number-is), w .place-is ∙ (λ i. start (e i) + offsetOf (l i)) ∙ sym (v .place-is))
+
+  -- "then 0 to 64 flows": a record in fault has the platform and at most 64 flows before it
+  pub few-before : {a b : ℕ} (w : RefusedBecause s a b) → w .n ≤ 65
+  few-before w = go (decLt 65 (w .n))
+    where
+      go : Dec (65 < w .n) → w .n ≤ 65
+      go (yes h) = let l = w .before 65 h in absurd (l .faultless unknown-tag (λ p. l .faultless misplaced (inr (omega arith, p)), λ f. l .faultless flow-65 (f, omega arith), l .no-end))
+      go (no d) = omega arith
 
   pub not-both : {a b : ℕ} → RefusedBecause s a b → AcceptedBecause s → ⊥
   not-both w v = go (ℕ-discrete (w .n) (v .n)) (decLt (w .n) (v .n))
