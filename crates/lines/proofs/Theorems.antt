@@ -16,6 +16,7 @@ use Rattle.plan_values.specs.declared.Flow.{Flow}
 use Rattle.plan.specs.declared.Reading.{Reading}
 use Rattle.plan.specs.Legal.{flow}
 use Rattle.plan.specs.Reading.{accepted, refused, readPlan}
+use Rattle.plan.proofs.Because.{refused-exactly}
 use Rattle.plan.proofs.Enough.{decided}
 use Rattle.plan.proofs.Exact.{accepted-exactly}
 use Rattle.model.specs.Verdicts.{answerTo, answers}
@@ -95,5 +96,5 @@ module _ (bytes held : List ℕ) where
     where
       go : {r : Returned} {is : List ℕ} → Offered bytes held r is → r .number ≢ 0 → textOf bytes ≡ refusalLine (r .number) (r .value)
       go (analysed f answer right) h = absurd (h refl)
-      go (sent-back number place e n h) q = refused-text number place e
+      go (sent-back number place w n h) q = refused-text number place (refused-exactly bytes number place .1 w)
       go (too-short p fs laid legal h) q = absurd (omega (arith, legal .few))
