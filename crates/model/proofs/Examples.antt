@@ -1,4 +1,4 @@
--- What plan P cannot show, since its link cycles are 1, its routing cycles and jitters 0, and its mesh one row: computed from the definitions alone.
+-- What plan P cannot show, since its link cycles are 1, its routing cycles and jitters 0, its mesh one row, and its deadlines the periods: computed from the definitions alone.
 use Prim.Native.Nat.{ℕ}
 use mathlib.Core.Path.{_≡_, refl}
 use mathlib.Core.List.{List, [], _∷_, map}
@@ -19,7 +19,7 @@ use Rattle.model.specs.Links.{pairOf}
 use Rattle.model.specs.Latency.{methodUsed, methodNumber, latency}
 use Rattle.model.specs.Interference.{directFor, indirectFor, comesBefore, those}
 use Rattle.model.specs.Delays.{allowance, weight, term, terms}
-use Rattle.model.specs.Verdicts.{highest, judged, judge, verdictBelow, verdict, answers}
+use Rattle.model.specs.Verdicts.{verdictNumber, namedFlow, boundIn, roundsIn, packetsIn, highest, judged, judge, verdictBelow, verdict, answers}
 
 abbrev mesh : (columns rows link routing buffer method : ℕ) → Platform
 mesh columns rows link routing buffer method = record { columns = columns; rows = rows; link = link; routing = routing; buffer = buffer; method = method }
@@ -93,6 +93,25 @@ no-order = flow 1 1 3 5 7 1000 1000 0 ∷ flow 2 2 0 5 44 100 100 0 ∷ flow 3 3
 abbrev jittered : ℕ → ℕ → ℕ → List Flow
 jittered two three five = flow 2 1 4 5 60 200 200 two ∷ flow 3 2 0 5 198 4000 4000 three ∷ flow 5 3 1 4 128 6000 6000 five ∷ []
 
+-- Each operand counts, and no two are equal. Flow 7 goes along row 0; on its way it meets flows 1 and 2, then flows 5 and 9, then flows 4 and 3. C is 66, 40, 29, 27, 72,
+-- 20, 16 and 24 in plan order, and flows 4 and 2 have the bounds 27 + 20 and 16 + 29. For (9, 7), flows 1 and 2 are upstream, flows 4 and 3 downstream, flow 5 is direct for both, and B is
+-- 7 x 2 x 2 = 28, between the C of flow 4 and that of flow 3. Flow 8 delays flow 4 alone.
+abbrev crossing : ℕ → List Flow
+crossing jitter =
+    flow 7 9 0 5 12 1190 1140 jitter
+    ∷ flow 3 6 11 5 13 170 160 28
+    ∷ flow 1 2 0 2 4 360 350 57
+    ∷ flow 4 5 4 11 3 350 340 56
+    ∷ flow 9 12 2 10 22 9000 8000 31
+    ∷ flow 8 1 10 11 3 170 165 24
+    ∷ flow 2 7 1 2 1 160 150 44
+    ∷ flow 5 4 2 3 5 440 430 1
+    ∷ []
+
+-- The verdicts of these flows, where flow 7 is bounded by r after k rounds and flow 9 by s after l.
+abbrev crossed : (r k s l : ℕ) → List Verdict
+crossed r k s l = Bounded r k ∷ Bounded 40 1 ∷ Bounded 29 1 ∷ Bounded 47 2 ∷ Bounded s l ∷ Bounded 20 1 ∷ Bounded 45 2 ∷ Bounded 24 1 ∷ []
+
 abbrev table : List Example
 table =
     -- 13; 13 + 13; 24 + 13 + 13, and flow 1, direct for flow 3 too, is no part of flow 2's weight
@@ -145,8 +164,35 @@ table =
     ∷ example (line 10 3) (jittered 0 0 1_000_000_000) (Bounded 62 1 ∷ Bounded 328 2 ∷ Late 0 ∷ [])
     -- a flow that waits, its own jitter above its deadline
     ∷ example (line 10 3) (jittered 0 4001 6001) (Bounded 62 1 ∷ Late 0 ∷ Waits 3 ∷ [])
+    -- SB: A = 274 - 66 and W = 66. 162 + 820 + 208 is flow 7's period: one packet, 72 + 24 + 66; one cycle more brings a second
+    ∷ example (mesh 6 4 2 5 7 1) (crossing 820) (crossed 274 4 162 2)
+    ∷ example (mesh 6 4 2 5 7 1) (crossing 821) (crossed 274 4 228 3)
+    -- XLWX: A = 1 x 29 + 3 x 16 and W = 66 + 1 x 27 + 2 x 40. 269 + 844 + 77 is the period: 72 + 24 + 173; one cycle more brings a second packet, and flow 5's
+    ∷ example (mesh 6 4 2 5 7 2) (crossing 844) (crossed 294 4 269 2)
+    ∷ example (mesh 6 4 2 5 7 2) (crossing 845) (crossed 294 4 466 4)
+    -- IBN: A = 398 - 66 and W = 66 + 2 x 27 + 3 x 28. 300 + 558 + 332 is the period: 72 + 24 + 204; one cycle more brings a second packet, and flow 5's
+    ∷ example (mesh 6 4 2 5 7 3) (crossing 558) (crossed 398 6 300 2)
+    ∷ example (mesh 6 4 2 5 7 3) (crossing 559) (crossed 398 6 528 4)
     ∷ []
 
 examples : map (λ e. map (λ a. a .verdict) (answers (e .platform) (e .flows))) table ≡ map (λ e. e .verdicts) table
 unfolding hops along xy on domain first-from up sumOver comesToFrom comesTo methodUsed _when_else_ latency directFor indirectFor comesBefore those allowance weight term terms highest judged judge verdictBelow verdict answers
 examples = refl
+
+-- "a definition sets out this paper's number and values for each of its cases": the number, the named flow, the bound and the rounds.
+values :
+    map (λ v. verdictNumber v ∷ namedFlow v ∷ boundIn v ∷ roundsIn v ∷ []) (Bounded 11 12 ∷ Late 13 ∷ Waits 14 ∷ [])
+    ≡ (0 ∷ 0xFFFF ∷ 11 ∷ 12 ∷ []) ∷ (1 ∷ 0xFFFF ∷ 0 ∷ 13 ∷ []) ∷ (2 ∷ 14 ∷ 0 ∷ 0 ∷ []) ∷ []
+values = refl
+
+-- "For each flow, in plan order", by its id.
+in-plan-order : map (λ a. a .id) (answers (mesh 6 4 2 5 7 0) (crossing 0)) ≡ 7 ∷ 3 ∷ 1 ∷ 4 ∷ 9 ∷ 8 ∷ 2 ∷ 5 ∷ []
+unfolding answers
+in-plan-order = refl
+
+-- "N(x) the sum of n_j(x) over direct j": flow 7 brings flow 9 a second packet after 268, up((268 + 845 + 77) / 1190) being 1, and flow 5 after 439, up((439 + 1) / 440).
+packets-for-9 :
+    map (packetsIn (mesh 6 4 2 5 7 2) (crossing 845) (verdict (mesh 6 4 2 5 7 2) (crossing 845)) (flow 9 12 2 10 22 9000 8000 31)) (268 ∷ 269 ∷ 439 ∷ 440 ∷ [])
+    ≡ 2 ∷ 3 ∷ 3 ∷ 4 ∷ []
+unfolding hops along xy on domain first-from up sumOver comesToFrom comesTo methodUsed _when_else_ latency directFor indirectFor comesBefore those allowance weight term terms highest judged judge verdictBelow verdict answers
+packets-for-9 = refl

@@ -1,12 +1,13 @@
 -- Figures of document 01, computed from the definitions alone.
 use Prim.Native.Nat.{ℕ}
 use mathlib.Core.Path.{_≡_, refl}
-use mathlib.Core.List.{List, [], _∷_}
+use mathlib.Core.List.{List, [], _∷_, map}
 use Rattle.recurrence.specs.declared.Settled.{Settled}
 use Rattle.recurrence.specs.declared.Settled.the-variants.{Bounded, Late}
 use Rattle.recurrence.specs.Rounding.{up}
 use Rattle.recurrence.specs.Sums.{sumOver}
-use Rattle.recurrence.specs.Recurrence.{Term, packets, rightSide}
+use Rattle.recurrence.specs.Recurrence.{Term, packets, rightSide, total, released}
+use Rattle.recurrence.specs.Columns.{heldTerms}
 use Rattle.recurrence.specs.ComesTo.{comesToFrom, comesTo}
 
 abbrev term : ℕ → ℕ → ℕ → Term
@@ -57,3 +58,28 @@ flow-5-again = (refl, refl, refl)
 no-room : (settled 132 1_000 (term 0 1 1 ∷ []) ≡ Late 7) × (settled 204 1_000_000_000 flow-3 ≡ Bounded 328 2)
 unfolding up sumOver comesToFrom comesTo
 no-room = (refl, refl)
+
+-- Two direct flows, no number twice: 72 + 173 + 24 = 269, which with the shift of 921 is one period of 1190. One cycle more, and a second packet of each comes in turn: 442, 466.
+abbrev two-terms : ℕ → List Term
+two-terms shift = term shift 1190 173 ∷ term 1 440 24 ∷ []
+
+two-direct :
+    (settled 72 8000 (two-terms 921) ≡ Bounded 269 2)
+    × (settled 72 8000 (two-terms 922) ≡ Bounded 466 4)
+    × (settled 72 466 (two-terms 922) ≡ Bounded 466 4)
+    × (settled 72 465 (two-terms 922) ≡ Late 3)
+    × (settled 72 441 (two-terms 922) ≡ Late 2)
+unfolding up sumOver comesToFrom comesTo
+two-direct = (refl, refl, refl, refl, refl)
+
+-- "N(x) the sum of n_j(x) over direct j", in windows x; and "sum over direct j of up((deadline - C) / period_j)", of stretches, where a shift counts for nothing.
+counts :
+    (map (total (two-terms 922)) (268 ∷ 269 ∷ 439 ∷ 440 ∷ []) ≡ 2 ∷ 3 ∷ 3 ∷ 4 ∷ [])
+    × (map (released (two-terms 922)) (0 ∷ 440 ∷ 441 ∷ 1190 ∷ 1191 ∷ []) ≡ 0 ∷ 2 ∷ 3 ∷ 4 ∷ 5 ∷ [])
+unfolding up sumOver
+counts = (refl, refl)
+
+-- The same terms in columns, with more behind them: 2110 is 921 + 1189, and 440 is 1 + 439.
+columns : heldTerms (2110 ∷ 440 ∷ 7 ∷ []) (1189 ∷ 439 ∷ 6 ∷ []) (173 ∷ 24 ∷ 5 ∷ []) 2 ≡ two-terms 921
+unfolding heldTerms
+columns = refl
