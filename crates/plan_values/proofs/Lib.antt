@@ -1,1 +1,2 @@
 mod Recording
+mod Examples

@@ -1,3 +1,4 @@
 pub mod Writing
 pub mod Theorems
 pub mod Records
+mod Examples

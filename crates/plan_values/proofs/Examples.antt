@@ -1,0 +1,25 @@
+-- A platform record and a flow record at place 2 of some bytes, no byte twice: each value is read where it stands, and most significant byte first.
+use mathlib.Core.Path.{_≡_, refl}
+use mathlib.Core.List.{[], _∷_}
+use Rattle.plan_values.specs.Values.{platformAt, flowAt}
+
+platform-read :
+    platformAt (0xEE ∷ 0xEF ∷ 0x01 ∷ 0x00 ∷ 0x06 ∷ 5 ∷ 3 ∷ 2 ∷ 4 ∷ 7 ∷ 1 ∷ 0xFE ∷ []) 2
+    ≡ record { columns = 5; rows = 3; link = 2; routing = 4; buffer = 7; method = 1 }
+platform-read = refl
+
+flow-read :
+    flowAt
+    (0xEE ∷ 0xEF ∷ 0x02 ∷ 0x00 ∷ 0x14
+    ∷ 0x01 ∷ 0x03
+    ∷ 0x04 ∷ 0x05
+    ∷ 0x06
+    ∷ 0x07
+    ∷ 0x08 ∷ 0x09
+    ∷ 0x1A ∷ 0x1B ∷ 0x1C ∷ 0x1D
+    ∷ 0x0A ∷ 0x0B ∷ 0x0C ∷ 0x0D
+    ∷ 0x2A ∷ 0x2B ∷ 0x2C ∷ 0x2D
+    ∷ 0xFE ∷ [])
+    2
+    ≡ record { id = 0x0103; priority = 0x0405; source = 6; destination = 7; flits = 0x0809; period = 0x1A1B1C1D; deadline = 0x0A0B0C0D; jitter = 0x2A2B2C2D }
+flow-read = refl
