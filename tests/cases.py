@@ -336,6 +336,40 @@ def paper_tables():
         yield platform(columns=7, buffer=buffer, method=method) + b"".join(second) + END_RECORD, bounds
 
 
+def apart():
+    """No two numbers of the mesh line equal, and a flow of each verdict."""
+    flows = [flow(11, 2, 0, 4, 10, 500, 450, 20), flow(12, 1, 3, 9, 6, 300, 200, 10), flow(13, 5, 1, 13, 15, 1000, 900, 40), flow(14, 6, 8, 13, 9, 400, 95, 6), flow(15, 9, 7, 13, 5, 800, 700, 3)]
+    return platform(5, 3, 2, 4, 7, 1) + b"".join(flows) + END_RECORD
+
+
+def crossing(method, jitter):
+    """Flows 1 and 2 upstream and flows 4 and 3 downstream of flow 7 for flow 9, where each operand counts: jitter of flow 7."""
+    flows = [
+        flow(7, 9, 0, 5, 12, 1190, 1140, jitter), flow(3, 6, 11, 5, 13, 170, 160, 28), flow(1, 2, 0, 2, 4, 360, 350, 57), flow(4, 5, 4, 11, 3, 350, 340, 56),
+        flow(9, 12, 2, 10, 22, 9000, 8000, 31), flow(8, 1, 10, 11, 3, 170, 165, 24), flow(2, 7, 1, 2, 1, 160, 150, 44), flow(5, 4, 2, 3, 5, 440, 430, 1),
+    ]
+    return platform(6, 4, 2, 5, 7, method) + b"".join(flows) + END_RECORD
+
+
+def apart_figures():
+    """Plans that tell apart what P does not, worked out by hand: flows with their verdict, named flow, bound and rounds."""
+    none = 65535
+    yield apart(), {11: (0, none, 80, 2), 12: (0, none, 30, 1), 13: (0, none, 110, 2), 14: (1, none, 0, 1), 15: (2, 14, 0, 0)}
+    for method, jitter, seven, nine in [
+        (1, 820, (274, 4), (162, 2)), (1, 821, (274, 4), (228, 3)), (2, 844, (294, 4), (269, 2)),
+        (2, 845, (294, 4), (466, 4)), (3, 558, (398, 6), (300, 2)), (3, 559, (398, 6), (528, 4)),
+    ]:
+        yield crossing(method, jitter), {7: (0, none, *seven), 9: (0, none, *nine)}
+
+
+def node_cases():
+    """The last node of 5 x 3, and one that is none: P's one row cannot tell columns x rows from columns."""
+    for place in range(5):
+        for offset in (7, 8):
+            for node in (14, 15):
+                yield changed(apart(), (9 + 23 * place + offset, u(1, node)))
+
+
 def published_cases():
     for changes, ident, expected in figures():
         data = changed(P, *changes)
@@ -344,6 +378,9 @@ def published_cases():
     for jitters, expected in tick_figures():
         data = with_jitters(P, jitters)
         assert tuple(answers_of(data).values()) == expected, (jitters, answers_of(data), expected)
+        yield data
+    for data, expected in apart_figures():
+        assert answers_of(data) | expected == answers_of(data), (answers_of(data), expected)
         yield data
     for data, bounds in paper_tables():
         assert tuple(answer[2] for answer in answers_of(data).values()) == bounds, (answers_of(data), bounds)
@@ -396,7 +433,7 @@ def random_cases():
 
 
 def main():
-    plans = [*framing_cases(), *field_cases(), *clash_cases(), *published_cases(), *busy_cases(), *random_cases(), *tick_cases()]
+    plans = [*framing_cases(), *field_cases(), *clash_cases(), *node_cases(), *published_cases(), *busy_cases(), *random_cases(), *tick_cases()]
     lines = [line(data) for data in plans]
     seen = {int(text.split()[0]) for text in lines}
     outcomes = {*range(5), *range(6, 11), *range(20, 26), *range(30, 39)}
