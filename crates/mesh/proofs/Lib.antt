@@ -6,3 +6,4 @@ pub mod Walks
 pub mod Counts
 pub mod Sides
 pub mod Theorems
+mod Examples

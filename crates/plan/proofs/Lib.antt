@@ -20,3 +20,4 @@ mod RuledFrame
 pub mod Because
 mod Examples
 mod Neighbours
+mod Apart

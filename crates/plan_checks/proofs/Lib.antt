@@ -3,3 +3,4 @@ mod Searches
 mod Fits
 mod Rests
 mod Examples
+mod Apart

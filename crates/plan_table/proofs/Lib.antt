@@ -1,3 +1,4 @@
 pub mod Tags
 mod Fits
 pub mod Numbers
+mod Examples
