@@ -93,9 +93,9 @@ no-order = flow 1 1 3 5 7 1000 1000 0 ∷ flow 2 2 0 5 44 100 100 0 ∷ flow 3 3
 abbrev jittered : ℕ → ℕ → ℕ → List Flow
 jittered two three five = flow 2 1 4 5 60 200 200 two ∷ flow 3 2 0 5 198 4000 4000 three ∷ flow 5 3 1 4 128 6000 6000 five ∷ []
 
--- Each operand counts, and no two are equal. Flow 7 goes along row 0; on its way it meets flows 1 and 2, then flows 5 and 9, then flows 4 and 3. C is 66, 40, 29, 27, 72,
--- 20, 16 and 24 in plan order, and flows 4 and 2 have the bounds 27 + 20 and 16 + 29. For (9, 7), flows 1 and 2 are upstream, flows 4 and 3 downstream, flow 5 is direct for both, and B is
--- 7 x 2 x 2 = 28, between the C of flow 4 and that of flow 3. Flow 8 delays flow 4 alone.
+-- Each operand counts. Flow 7 goes along row 0; on its way it meets flows 1 and 2, then flows 5 and 9, then flows 4 and 3. C is 66, 40, 29, 27, 72, 20, 16 and 24 in plan
+-- order; flow 4, delayed by flow 8, is bounded by 27 + 20, and flow 2, delayed by flow 1, by 16 + 29. For (9, 7), flows 1 and 2 are upstream, flows 4 and 3 downstream, flow 5 is
+-- direct for both, and B is 7 x 2 x 2 = 28, between the C of flow 4 and that of flow 3.
 abbrev crossing : ℕ → List Flow
 crossing jitter =
     flow 7 9 0 5 12 1190 1140 jitter
