@@ -19,8 +19,10 @@ use Rattle.model.specs.Latency.{methodUsed, latency}
 use Rattle.model.specs.Interference.{directFor, indirectFor, comesBefore, those}
 use Rattle.model.specs.Delays.{allowance, weight, term, terms}
 use Rattle.model.specs.Verdicts.{highest, judged, judge, verdictBelow, verdict, answers}
-use Rattle.lines_each.specs.Decimal.{digitsBelow, decimal}
-use Rattle.lines_each.specs.Lines.{item, meshStart, meshLine, told, flowLine, refusalLine}
+use Rattle.lines_items.specs.Decimal.{digitsBelow, decimal}
+use Rattle.lines_items.specs.Items.{item}
+use Rattle.lines_mesh.specs.Mesh.{meshStart, meshLine}
+use Rattle.lines_flow.specs.Flows.{told, flowLine, refusalLine}
 use Rattle.lines.specs.Lines.{textBy, textOf}
 
 -- The method's digit stands at the end of P's first line.

@@ -7,9 +7,9 @@ use mathlib.Core.List.{List, _++_}
 use lib.ListN.{length}
 use Rattle.model.specs.declared.Answer.{Answer}
 use Rattle.reply.specs.Records.{answerAt}
-use Rattle.lines_each.specs.Written.{Written}
-use Rattle.lines_each.specs.Lines.{flowLine}
-use Rattle.lines_each.proofs.Chain.{chain, length-held, written-none}
+use Rattle.lines_items.specs.Written.{Written}
+use Rattle.lines_flow.specs.Flows.{flowLine}
+use Rattle.lines_items.proofs.Chain.{chain, length-held, written-none}
 use Rattle.lines.specs.Replied.{recordLine, recordLines}
 use Rattle.lines.proofs.Replied.{line-read}
 

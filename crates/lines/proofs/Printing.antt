@@ -12,9 +12,10 @@ use Rattle.framing.specs.declared.returned.Returned.{Returned}
 use Rattle.plan_values.specs.Values.{platformAt}
 use Rattle.plan_values.specs.declared.Platform.{Platform}
 use Rattle.analyser.specs.Analysed.{returned, left}
-use Rattle.lines_each.specs.Written.{Written}
-use Rattle.lines_each.specs.Lines.{meshLine, refusalLine}
-use Rattle.lines_each.proofs.Chain.{chain, length-held}
+use Rattle.lines_items.specs.Written.{Written}
+use Rattle.lines_mesh.specs.Mesh.{meshLine}
+use Rattle.lines_flow.specs.Flows.{refusalLine}
+use Rattle.lines_items.proofs.Chain.{chain, length-held}
 use Rattle.lines.specs.Lines.{textOf, handed}
 use Rattle.lines.specs.Replied.{recordLines}
 use Rattle.lines.proofs.Theorems.{Lines, SameAsReply, same-as-the-reply}

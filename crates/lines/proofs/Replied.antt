@@ -7,9 +7,10 @@ use lib.Dec.{eqb}
 use Rattle.framing.specs.First.{_when_else_}
 use Rattle.model.specs.declared.Verdict.the-variants.{Bounded, Late, Waits}
 use Rattle.reply.specs.Records.{idAt, verdictAt, namedAt, boundAt, roundsAt, verdictBy, answerAt}
-use Rattle.lines_each.specs.Words.{boundedWord, lateWord, waitsWord, roundsWord, lineEnd}
-use Rattle.lines_each.specs.Decimal.{decimal}
-use Rattle.lines_each.specs.Lines.{item, told, flowLine}
+use Rattle.lines_items.specs.Words.{boundedWord, lateWord, waitsWord, roundsWord, lineEnd}
+use Rattle.lines_items.specs.Decimal.{decimal}
+use Rattle.lines_items.specs.Items.{item}
+use Rattle.lines_flow.specs.Flows.{told, flowLine}
 use Rattle.lines.specs.Replied.{toldAt, recordLine}
 
 told-read : (is : List ℕ) (k : ℕ) → told (answerAt is k .verdict) ≡ toldAt is k

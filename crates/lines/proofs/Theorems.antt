@@ -26,7 +26,8 @@ use Rattle.reply.specs.Records.{verdictAt}
 use Rattle.reply.proofs.Records.{answer-told}
 use Rattle.analyser.specs.Analysed.{returned, left}
 use Rattle.analyser.proofs.Demands.{Fine, Offered, analysed, sent-back, too-short, demand-1, demand-2, read-back, reply-size, success-exactly}
-use Rattle.lines_each.specs.Lines.{meshLine, flowLine, refusalLine}
+use Rattle.lines_mesh.specs.Mesh.{meshLine}
+use Rattle.lines_flow.specs.Flows.{flowLine, refusalLine}
 use Rattle.lines.specs.Lines.{textBy, textOf}
 use Rattle.lines.specs.Replied.{recordLine, recordLines}
 use Rattle.lines.proofs.Replied.{line-read}

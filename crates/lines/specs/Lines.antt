@@ -8,7 +8,8 @@ use Rattle.framing.specs.declared.returned.Outcome.{Outcome}
 use Rattle.framing.specs.declared.returned.Outcome.the-variants.{Accepted, Refused}
 use Rattle.plan.specs.Reading.{readPlan}
 use Rattle.model.specs.Verdicts.{answers}
-use Rattle.lines_each.specs.Lines.{meshLine, flowLine, refusalLine}
+use Rattle.lines_mesh.specs.Mesh.{meshLine}
+use Rattle.lines_flow.specs.Flows.{flowLine, refusalLine}
 use Rattle.lines.specs.declared.Text.{Text}
 
 -- "A small program prints the same result as text."

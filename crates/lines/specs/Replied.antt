@@ -4,9 +4,9 @@ use mathlib.Core.List.{List, [], _++_}
 use lib.Dec.{eqb}
 use Rattle.framing.specs.First.{_when_else_}
 use Rattle.reply.specs.Records.{idAt, verdictAt, namedAt, boundAt, roundsAt}
-use Rattle.lines_each.specs.Words.{boundedWord, lateWord, waitsWord, roundsWord, lineEnd}
-use Rattle.lines_each.specs.Decimal.{decimal}
-use Rattle.lines_each.specs.Lines.{item}
+use Rattle.lines_items.specs.Words.{boundedWord, lateWord, waitsWord, roundsWord, lineEnd}
+use Rattle.lines_items.specs.Decimal.{decimal}
+use Rattle.lines_items.specs.Items.{item}
 
 -- "after `bounded` the bound and rounds, after `late` the rounds, after `waits` the named id": the word by the verdict's number in record k, the numbers as they stand there.
 unfoldable pub toldAt : List ℕ → ℕ → List ℕ

@@ -5,11 +5,11 @@ ghost use lib.ListN.{length};
 ghost use Rattle.io.specs.Counts.{Counts};
 ghost use Rattle.lines.specs.Lines.{textOf, handed};
 ghost use Rattle.lines.specs.Replied.{recordLines};
-ghost use Rattle.lines_each.specs.Written.{Written};
+ghost use Rattle.lines_items.specs.Written.{Written};
 use analyser::analyse;
-use lines_each::line::put_flow;
-use lines_each::line::put_mesh;
-use lines_each::line::put_refusal;
+use lines_flow::put_flow;
+use lines_flow::put_refusal;
+use lines_mesh::put_mesh;
 use plan_values::platform_at;
 use reply::answer_at;
 

@@ -4,7 +4,7 @@ use native.Mathlib.Omega.{arith}
 use borrow.Author.Needs.{needs}
 use denote.Ref.{now}
 use lib.ListN.{length-replicate}
-use Rattle.lines_each.proofs.Chain.{length-held}
+use Rattle.lines_items.proofs.Chain.{length-held}
 use Rattle.lines.proofs.Printing.{printed-refused, all-lines, printed-lines}
 use Rattle.lines.proofs.text_of.Statement.{statement}
 use Rattle.lines.proofs.text_of.Tie as tie

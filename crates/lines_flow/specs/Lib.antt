@@ -1,0 +1,2 @@
+-- A flow's line and a refusal's.
+pub mod Flows

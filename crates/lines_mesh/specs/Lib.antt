@@ -1,0 +1,2 @@
+-- The mesh's line.
+pub mod Mesh
