@@ -1,5 +1,5 @@
 -- Document 01, "What sends a plan back", said without a reader: each line's "Given when" as what holds of the bytes, and the order as ranks.
--- Nothing here is taken from Checks or Reading; proofs/Because shows that `readPlan` refuses for these reasons and for no others.
+-- Nothing here is taken from Checks, Records or Reading; proofs/Because shows that `readPlan` refuses for these reasons and for no others.
 use Prim.Native.Nat.{ℕ, zero, suc, _+_, _*_, _≤_, _<_}
 use mathlib.Core.Path.{_≡_}
 use mathlib.Core.List.{List}

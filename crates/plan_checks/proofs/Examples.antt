@@ -1,4 +1,4 @@
--- The order of a frame's refusals, computed: "header complete (1), 2, 4, 3, body complete (1), 6". Each record has two faults, neighbours in that order.
+-- The order of a frame's refusals, computed: "header complete (1), 2, 4, 3, body complete (1), 6". But for the record that is missing, each has two faults.
 use Prim.Native.Nat.{ℕ}
 use mathlib.Core.Path.{_≡_, refl}
 use mathlib.Core.List.{List, [], _∷_, map}
@@ -29,7 +29,8 @@ first-frames = refl
 
 later-frames :
     later
-    ([] ∷ (0x03 ∷ []) ∷ (0x03 ∷ 0x00 ∷ []) ∷ (0x00 ∷ []) ∷ (0xFF ∷ 0x00 ∷ [])  -- 1 before 2
+    ([]  -- no byte at all
+    ∷ (0x03 ∷ []) ∷ (0x03 ∷ 0x00 ∷ []) ∷ (0x00 ∷ []) ∷ (0xFF ∷ 0x00 ∷ [])  -- 1 before 2
     ∷ (0x01 ∷ [])  -- 1 before 4
     ∷ (0x01 ∷ 0x00 ∷ 0x07 ∷ [])  -- 4 before 3
     ∷ (0x02 ∷ 0x00 ∷ 0x13 ∷ []) ∷ (0x7F ∷ 0x00 ∷ 0x01 ∷ [])  -- 3 before 1
