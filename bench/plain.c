@@ -102,7 +102,7 @@ static inline uint64_t direct_flows(const uint8_t *shared, size_t i) {
 
 static inline size_t lowest(uint64_t set) { return (size_t)__builtin_ctzll(set); }
 
-/* The hits on flow i, once its bound is known: they hang on no third flow. SB asks for none. */
+/* The hits on flow i, once its bound is known: they depend on no third flow. SB asks for none. */
 static inline void hits_on(struct work *w, size_t i) {
     if (w->method == SB) return;
     for (uint64_t set = w->direct[i]; set != 0; set &= set - 1) {

@@ -99,7 +99,7 @@ static void latencies(struct work *w) {
     }
 }
 
-/* The hits on flow i, once its bound is known: they hang on no third flow. */
+/* The hits on flow i, once its bound is known: they depend on no third flow. */
 static void hits_on(struct work *w, size_t i) {
     for (size_t k = 0; k < w->count; k++) {
         const struct flow *f = &w->flows[k];

@@ -1,4 +1,4 @@
-// The hits on a flow whose bound is known: they hang on no third flow, so they are worked out once.
+// The hits on a flow whose bound is known: they depend on no third flow, so they are worked out once.
 ghost use Prim.Native.Nat.{ℕ, _+_, _-_, _≤_, _<_};
 ghost use lib.ListN.{getD};
 ghost use Rattle.recurrence.specs.Rounding.{up};

@@ -21,6 +21,7 @@ fn with_third(l: Loads, shared: u8, place: u8, first: u8, cap: u32, hit: u32, co
     requires { ⌜ (l .up + upPart shared place first hit cost ≤ 1_000_000_000) × (l .down + downPart shared place first cap hit cost ≤ 1_000_000_000) ⌝ }
     ensures { λ r. ⌜ (r .up ≡ l .up + upPart shared place first hit cost) × (r .down ≡ l .down + downPart shared place first cap hit cost) ⌝ }
 {
+    // "not direct for i": k is above j and j above i, so that sharing a link decides (`model` `Sides.indirect-by-count`).
     if 0 < shared {
         return l;
     }

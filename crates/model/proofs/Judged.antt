@@ -34,7 +34,7 @@ pub direct-above : (p : Platform) (i j : Flow) → directFor p i j ≡ true → 
 unfolding directFor
 direct-above p i j d = ltb-true _ _ (and-left (ltb (j .priority) (i .priority)) (ltb 0 (pairOf p i j .count)) d)
 
--- ---- the verdict hangs on nothing but the answers to the direct flows
+-- ---- the verdict depends on nothing but the answers to the direct flows
 module _ (p : Platform) (fs : List Flow) (i : Flow) (f g : Flow → Verdict)
     (same : (k : ℕ) → k < length fs → directFor p i (flow fs k) ≡ true → f (flow fs k) ≡ g (flow fs k)) where
   pub terms-local : termsOf p fs f i ≡ termsOf p fs g i

@@ -34,7 +34,7 @@ unfolding directFor
 direct-shares p i j d = ltb-true _ _ (and-right (ltb (j .priority) (i .priority)) (ltb 0 (pairOf p i j .count)) d)
 
 module _ (p : Platform) (i j k : Flow) (d : directFor p i j ≡ true) where
-  -- A flow above one that is above i is above i: whether it is direct for i hangs on their links alone.
+  -- A flow above one that is above i is above i: whether it is direct for i depends on their links alone.
   pub indirect-by-count : directFor p j k ≡ true → directFor p i k ≡ ltb 0 (pairOf p i k .count)
   unfolding directFor
   indirect-by-count e = rw (lt-ltb (k .priority) (i .priority) (omega (arith, direct-above p i j d, direct-above p j k e)))

@@ -52,7 +52,7 @@ module _ (s u : List ℕ) (m : ℕ) (agree : (i : ℕ) → i < place m → oneAt
   number Four i l = ap₂ (λ a b. 65536 * a + b) (two i (omega arith)) (two (i + 2) (omega arith))
 
   module _ (at : ℕ) (h : at + 23 ≤ place m) where
-    -- the body's check hangs on the length, which by then is the tag's
+    -- the body's check depends on the length, which by then is the tag's
     body : (kind : Kind) (next : Checked) → (Fault 3 (at + 1) when wrongLength s at kind else Fault 1 at when bodyCut s at else next) ≡ (Fault 3 (at + 1) when wrongLength u at kind else Fault 1 at when bodyCut u at else next)
     unfolding _when_else_
     body kind next = go (eqb (lengthAt u at) (bodyLength kind)) refl

@@ -22,7 +22,7 @@ use Rattle.plan_checks.specs.declared.Limits.{Limits}
 use Rattle.plan_checks.specs.declared.Checked.{Checked}
 use Rattle.plan_checks.specs.declared.Checked.the-variants.{Fault, Passed}
 
--- "below columns x rows", "1..period": what limits hang on. Only a flow record has a period.
+-- "below columns x rows", "1..period": what limits depend on. Only a flow record has a period.
 abbrev pub periodAt : List ℕ → ℕ → Kind → ℕ
 periodAt s at PlatformRecord = 0
 periodAt s at FlowRecord = flowAt s at .period

@@ -19,7 +19,7 @@ use plan_values::Flow;
 use plan_values::Platform;
 use plan_values::flow_at;
 
-// What the limits of a record's fields hang on.
+// What the limits of a record's fields depend on.
 pub struct Limits {
     pub nodes: u32,
     pub period: u32,

@@ -34,7 +34,7 @@ bodyLength FlowRecord = 20
 bodyLength EndRecord = 0
 
 -- Column "Fields in order (bytes): allowed values". A line is the field's bytes, its lowest value, its highest
--- (or what that hangs on), and the refusal of a value outside them: document 02, "20 to 25 for the platform's fields from
+-- (or what that depends on), and the refusal of a value outside them: document 02, "20 to 25 for the platform's fields from
 -- columns to method, 30 to 37 for the flow's from id to jitter".
 abbrev pub platformFields : List Field
 platformFields =

@@ -18,7 +18,7 @@ pub enum Tag {
     Unknown,
 }
 
-// The highest allowed value: a number, or one that hangs on the platform or on the record.
+// The highest allowed value: a number, or one that depends on the platform or on the record.
 // A value above the period has a refusal of its own.
 pub enum Limit {
     UpTo(u32),
