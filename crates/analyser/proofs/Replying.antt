@@ -1,6 +1,6 @@
 -- `analyse` returns and leaves what is defined, by what was read: a refusal, a plan whose reply does not fit, or one whose reply does.
 use Prim.Native.Nat.{ℕ, _≤_, _<_}
-use mathlib.Core.Path.{_≡_, refl, ap, _∙_}
+use mathlib.Core.Path.{_≡_, ap, _∙_}
 use mathlib.Core.List.{List, _++_}
 use lib.ListN.{length, take, drop}
 use Rattle.framing.specs.Returned.{refusedWith, acceptedWith}

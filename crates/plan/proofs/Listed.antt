@@ -10,7 +10,7 @@ use borrow.Author.Tests.{ltb-false, eqb-false, leb-true}
 use Rattle.framing.specs.First.{_when_else_}
 use Rattle.framing_numbers.specs.Numbers.{bytesOf}
 use Rattle.framing.specs.Header.{tagAt}
-use Rattle.plan_table.specs.Table.{tagOf, fieldsOf, width, highestOf, refusalAbove}
+use Rattle.plan_table.specs.Table.{tagOf, fieldsOf, width}
 use Rattle.plan_checks.specs.Checks.{limitsAt}
 use Rattle.plan_checks.specs.Checks.{misplaced, noRoom, headerAt, taggedAt, frameAt, clashAt, tailAt, restAt}
 use Rattle.plan.specs.Records.{fieldsFrom, _then_, bodyAt, recordAt}

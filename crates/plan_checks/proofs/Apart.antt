@@ -7,9 +7,7 @@ use lib.ListN.{getD}
 use Rattle.framing.specs.First.{_when_else_}
 use Rattle.plan_table.specs.Table.{fieldsOf, noField}
 use Rattle.plan_table.specs.declared.Kind.{Kind}
-use Rattle.plan_table.specs.declared.Kind.the-variants.{PlatformRecord, FlowRecord, EndRecord}
-use Rattle.plan_values.specs.declared.Platform.{Platform}
-use Rattle.plan_values.specs.declared.Flow.{Flow}
+use Rattle.plan_table.specs.declared.Kind.the-variants.{PlatformRecord, FlowRecord}
 use Rattle.plan_checks.specs.Checks.{limitsAt, outside, clashAt}
 use Rattle.plan_checks.specs.declared.Limits.{Limits}
 use Rattle.plan_checks.specs.declared.Checked.{Checked}

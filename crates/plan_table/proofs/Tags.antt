@@ -8,7 +8,6 @@ use Rattle.framing.specs.First.{_when_else_}
 use Rattle.plan_table.specs.Table.{tagOf, tagByte}
 use Rattle.plan_table.specs.declared.Kind.{Kind}
 use Rattle.plan_table.specs.declared.Kind.the-variants.{PlatformRecord, FlowRecord, EndRecord}
-use Rattle.plan_table.specs.declared.Tag.{Tag}
 use Rattle.plan_table.specs.declared.Tag.the-variants.{Known, Unknown}
 
 pub tag-known : (kind : Kind) → tagOf (tagByte kind) ≡ Known kind

@@ -1,7 +1,7 @@
 -- A record of each verdict, computed; the bytes of each number differ, so that every number has its place, most significant byte first.
 use Prim.Native.Nat.{ℕ}
 use mathlib.Core.Path.{_≡_, refl}
-use mathlib.Core.List.{List, [], _∷_}
+use mathlib.Core.List.{[], _∷_}
 use Rattle.framing.specs.Each.{each}
 use Rattle.model.specs.declared.Answer.{Answer}
 use Rattle.model.specs.declared.Verdict.{Verdict}
