@@ -1,4 +1,5 @@
 pub mod Longer
+mod Typed
 mod Returning
 pub mod ReadBack
 pub mod Again

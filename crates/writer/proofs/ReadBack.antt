@@ -17,14 +17,14 @@ use Rattle.framing.proofs.Stands.{Stands, two, four, header}
 use Rattle.plan.specs.Layout.{place, Laid}
 use Rattle.plan.specs.Legal.{LegalPlatform, LegalFlow, Legal, flow}
 use Rattle.plan.specs.Reading.{accepted, readPlan}
-use Rattle.plan_table.specs.Table.{platformFields, flowFields}
+use Rattle.plan_table.specs.Table.{flowFields}
 use Rattle.plan_values.specs.Values.{platformAt, flowAt, blankFlow}
 use Rattle.plan_values.specs.declared.Platform.{Platform}
 use Rattle.plan_values.specs.declared.Flow.{Flow}
 use Rattle.framing.specs.declared.returned.Outcome.the-variants.{Accepted}
 use Rattle.plan.proofs.Exact.{accepted-exactly, accepted-plan}
-use Rattle.writer_bytes.specs.PlanBytes.{platformValues, flowValues, platformBytes, flowBytes, planBytes}
-use Rattle.writer.specs.Fits.{Fits, FitsPlan}
+use Rattle.writer_bytes.specs.PlanBytes.{flowValues, platformBytes, flowBytes, planBytes}
+use Rattle.writer.specs.Fits.{Fits, FitsEach}
 use Rattle.writer_bytes.proofs.Putting.{length-platform, length-flow, length-flows, length-plan}
 
 -- A record that stands within other bytes has the same values there.
@@ -87,11 +87,11 @@ module _ (p : Platform) (fs : List Flow) where
   the-end : Stands (planBytes p fs) (place (length fs)) endRecord 3
   the-end = record { one = λ d h. later (23 * length fs) d ∙ rw (← length-flows fs) (getD-append-add (each flowBytes fs) endRecord d 0) }
 
-  pub written-laid : FitsPlan p fs → Laid (planBytes p fs) p fs
+  pub written-laid : FitsEach fs → Laid (planBytes p fs) p fs
   unfolding platformBytes flowBytes
   written-laid w = record {
     platform = (header platform-first (omega arith) refl refl, platform-stands platform-first ∙ platform-back p);
-    each = λ k l. (header (flow-k k l) (omega arith) refl refl, flow-stands (flow-k k l) ∙ flow-back (flow fs k) (w .each k l));
+    each = λ k l. (header (flow-k k l) (omega arith) refl refl, flow-stands (flow-k k l) ∙ flow-back (flow fs k) (w k l));
     end = header the-end (omega arith) refl refl;
     nothing-else = length-plan p fs ∙ omega arith;
   }
@@ -103,7 +103,7 @@ laid-once {s} {p} {q} {fs} {gs} a b =
     (sym (a .platform .1) ∙ b .platform .1, ext-getD blankFlow fs gs n (λ k l. sym (a .each k l .1) ∙ b .each k (omega arith) .1))
 
 -- "Reading the written bytes gives back the same platform and flows in the same order"
-pub given-back : (p : Platform) (fs : List Flow) → FitsPlan p fs → readPlan (planBytes p fs) .outcome ≡ Accepted → readPlan (planBytes p fs) ≡ accepted p fs
+pub given-back : (p : Platform) (fs : List Flow) → FitsEach fs → readPlan (planBytes p fs) .outcome ≡ Accepted → readPlan (planBytes p fs) ≡ accepted p fs
 given-back p fs w e =
     let (q, gs, r) = accepted-plan (planBytes p fs) e in
     let k = laid-once (accepted-exactly _ q gs .0 r .0) (written-laid p fs w) in
@@ -114,12 +114,9 @@ nodes : {p : Platform} → LegalPlatform p → p .columns * p .rows ≤ 64
 nodes w = mul-le-mul (w .columns .1) (w .rows .1)
 
 -- Legal values fit their fields, and so what is written of a legal plan is read again.
-legal-fits : (p : Platform) (fs : List Flow) → Legal p fs → FitsPlan p fs
-legal-fits p fs w = record { platform = of-platform (w .platform); each = λ k l. of-flow (w .each k l) }
+legal-fits : (p : Platform) (fs : List Flow) → Legal p fs → FitsEach fs
+legal-fits p fs w = λ k l. of-flow (w .each k l)
   where
-    of-platform : LegalPlatform p → Fits platformFields (platformValues p)
-    of-platform l = (omega (arith, l .columns), (omega (arith, l .rows), (omega (arith, l .link), (omega (arith, l .routing), (omega (arith, l .buffer), (omega (arith, l .method), tt))))))
-
     of-flow : {f : Flow} → LegalFlow p f → Fits flowFields (flowValues f)
     of-flow l =
         let source = l .source in

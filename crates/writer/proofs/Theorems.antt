@@ -1,41 +1,30 @@
 -- What the depot relies on, of any platform, any flows and any buffer. `write` promises to return `returned p fs (length held)`
--- and to leave `left p fs held` in the buffer that held `held`.
+-- and to leave `left p fs held` in the buffer that held `held`, and that reading gives back `p` and `fs` (`GivenBack`).
 use Prim.Native.Nat.{ℕ, _+_, _*_, _≤_, _<_}
 use mathlib.Core.Path.{_≡_, refl, sym, ap, _∙_}
 use mathlib.Core.Logic.{_≢_}
 use mathlib.Core.List.{List, _++_}
 use native.Mathlib.Decide.{decLt}
 use native.Mathlib.Omega.{arith}
-use lib.ListN.{length, take, drop}
+use lib.ListN.{length, drop}
 use lib.Seq.{take-at}
 use Rattle.framing_numbers.specs.Numbers.{Bytes}
 use Rattle.framing.specs.Returned.{refusedWith, acceptedWith}
 use Rattle.framing.specs.declared.returned.Returned.{Returned}
 use Rattle.framing.proofs.Rooms.{handed-on, too-short, room-enough}
 use Rattle.plan.specs.Legal.{Legal}
-use Rattle.plan.specs.Reading.{accepted, refused, readPlan}
+use Rattle.plan.specs.Reading.{accepted, readPlan}
 use Rattle.plan_values.specs.declared.Platform.{Platform}
 use Rattle.plan_values.specs.declared.Flow.{Flow}
 use Rattle.framing.specs.declared.returned.Outcome.{Outcome}
 use Rattle.framing.specs.declared.returned.Outcome.the-variants.{Accepted, Refused}
 use Rattle.plan.specs.declared.Reading.{Reading}
-use Rattle.plan.proofs.Answered.{Lawful, accepts, refuses, answered}
-use Rattle.plan.proofs.Numbered.{never}
 use Rattle.writer_bytes.specs.PlanBytes.{planBytes}
-use Rattle.writer.specs.Fits.{FitsPlan}
-use Rattle.writer.specs.Written.{returned, left}
+use Rattle.writer.specs.Written.{returned, left, GivenBack}
 use Rattle.writer_bytes.proofs.Putting.{length-plan}
-use Rattle.writer.proofs.ReadBack.{given-back, written-exactly}
+use Rattle.writer.proofs.ReadBack.{written-exactly}
+use Rattle.writer.proofs.Returning.{not-accepted}
 use Rattle.writer.proofs.Again.{same-bytes}
-
--- A refusal's number is not acceptance's 0.
-not-accepted : (s : List ℕ) {number place : ℕ} → readPlan s .outcome ≡ Refused number place → number ≢ 0
-unfolding accepted refused
-not-accepted s {number} {place} = go (readPlan s) (answered s)
-  where
-    go : (r : Reading) → Lawful s r → r .outcome ≡ Refused number place → number ≢ 0
-    go r (accepts q gs laid legal) e = let z : _≡_ {A = ℕ} 0 1 = cc in absurd (omega arith)
-    go r (refuses n at w h) e = let a : n ≡ number = cc in rw (← a) (never 0 refl w)
 
 module _ (p : Platform) (fs : List Flow) (held : List ℕ) where
   abbrev bytes : List ℕ
@@ -70,17 +59,6 @@ module _ (p : Platform) (fs : List Flow) (held : List ℕ) where
       go no-room n = refl
       go (whole e h) n = absurd (n refl)
 
-  -- "Reading the written bytes gives back the same platform and flows in the same order": of values that fit their fields.
-  pub written-read : FitsPlan p fs → {long : ℕ} → returned p fs (length held) ≡ acceptedWith long → readPlan (take long (left p fs held)) ≡ accepted p fs
-  written-read w {long} = go came
-    where
-      go : {r : Returned} {is : List ℕ} → Came r is → r ≡ acceptedWith long → readPlan (take long is) ≡ accepted p fs
-      go (sent-back number place h) e = let z : number ≡ 0 = ap (λ (r : Returned). r .number) e in absurd (omega arith)
-      go no-room e = let z : _≡_ {A = ℕ} 11 0 = ap (λ (r : Returned). r .number) e in absurd (omega arith)
-      go (whole o h) e =
-          let l : length bytes ≡ long = ap (λ (r : Returned). r .value) e in
-          ap readPlan (take-at bytes (drop (length bytes) held) long l) ∙ given-back p fs w o
-
   -- "writing what was read from any accepted plan gives the same bytes": all of them, so that method 0 stays 0.
   pub read-written : (s : List ℕ) → Bytes s → readPlan s ≡ accepted p fs → length s ≤ length held → (returned p fs (length held) ≡ acceptedWith (length s)) × (left p fs held ≡ s ++ drop (length s) held)
   unfolding accepted
@@ -96,10 +74,12 @@ module _ (p : Platform) (fs : List Flow) (held : List ℕ) where
       let l = length-plan p fs in
       sym (room-enough (length bytes) bytes held (ap (λ (r : Reading). r .outcome) (written-exactly p fs .1 w)) (omega arith) .0) ∙ ap acceptedWith l
 
-  pub written-legal : FitsPlan p fs → returned p fs (length held) .number ≡ 0 → Legal p fs × (12 + 23 * length fs ≤ length held)
-  written-legal w = go came
+  pub written-legal : GivenBack p fs (returned p fs (length held)) (left p fs held) → returned p fs (length held) .number ≡ 0 → Legal p fs × (12 + 23 * length fs ≤ length held)
+  written-legal = go came
     where
-      go : {r : Returned} {is : List ℕ} → Came r is → r .number ≡ 0 → Legal p fs × (12 + 23 * length fs ≤ length held)
-      go (sent-back number place h) e = absurd (omega arith)
-      go no-room e = absurd (omega arith)
-      go (whole o h) e = (written-exactly p fs .0 (given-back p fs w o), omega (arith, length-plan p fs))
+      go : {r : Returned} {is : List ℕ} → Came r is → GivenBack p fs r is → r .number ≡ 0 → Legal p fs × (12 + 23 * length fs ≤ length held)
+      go (sent-back number place h) b e = absurd (omega arith)
+      go no-room b e = absurd (omega arith)
+      go (whole o h) b e =
+          let front = take-at bytes (drop (length bytes) held) (length bytes) refl in
+          (written-exactly p fs .0 (ap readPlan (sym front) ∙ b .same refl), omega (arith, length-plan p fs))

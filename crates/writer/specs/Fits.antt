@@ -5,11 +5,10 @@ use lib.ListN.{length}
 use Rattle.framing_numbers.specs.Numbers.{bytesOf}
 use Rattle.plan.specs.Legal.{flow}
 use Rattle.plan_table.specs.Table.{fieldsOf, width}
-use Rattle.plan_values.specs.declared.Platform.{Platform}
 use Rattle.plan_values.specs.declared.Flow.{Flow}
 use Rattle.plan_table.specs.declared.Field.{Field}
-use Rattle.plan_table.specs.declared.Kind.the-variants.{PlatformRecord, FlowRecord}
-use Rattle.writer_bytes.specs.PlanBytes.{platformValues, flowValues}
+use Rattle.plan_table.specs.declared.Kind.the-variants.{FlowRecord}
+use Rattle.writer_bytes.specs.PlanBytes.{flowValues}
 
 -- Each value can be held by the bytes of its field.
 abbrev pub Fits : List Field → List ℕ → Type 0
@@ -17,6 +16,5 @@ Fits [] values = Unit {0}
 Fits (f ∷ fields) [] = Unit {0}
 Fits (f ∷ fields) (v ∷ values) = (v < 256 ^ bytesOf (width f)) × Fits fields values
 
-pub record FitsPlan (p : Platform) (fs : List Flow) : Type 0 where
-  pub platform : Fits (fieldsOf PlatformRecord) (platformValues p)
-  pub each : (k : ℕ) → k < length fs → Fits (fieldsOf FlowRecord) (flowValues (flow fs k))
+abbrev pub FitsEach : List Flow → Type 0
+FitsEach fs = (k : ℕ) → k < length fs → Fits (fieldsOf FlowRecord) (flowValues (flow fs k))

@@ -1,10 +1,11 @@
 -- Document 02, L1: what `write` returns, and what it leaves in the buffer lent to it.
 use Prim.Native.Nat.{ℕ, _-_}
+use mathlib.Core.Path.{_≡_}
 use mathlib.Core.List.{List, _++_}
 use lib.ListN.{length, take, replicate}
 use Rattle.framing.specs.Returned.{returnedBy, leftBy}
 use Rattle.framing.specs.declared.returned.Returned.{Returned}
-use Rattle.plan.specs.Reading.{readPlan}
+use Rattle.plan.specs.Reading.{accepted, readPlan}
 use Rattle.plan_values.specs.Values.{blankFlow}
 use Rattle.plan_values.specs.declared.Flow.{Flow}
 use Rattle.plan_values.specs.declared.Platform.{Platform}
@@ -23,3 +24,7 @@ returned p fs room = returnedBy (readPlan (planBytes p fs) .outcome) (length (pl
 -- "The buffer is untouched by a refusal."
 abbrev pub left : Platform → List Flow → List ℕ → List ℕ
 left p fs held = leftBy (readPlan (planBytes p fs) .outcome) (length (planBytes p fs)) (planBytes p fs) held
+
+-- "Reading the written bytes gives back the same platform and flows in the same order": where 0 was returned, with the plan's length.
+pub record GivenBack (p : Platform) (fs : List Flow) (r : Returned) (is : List ℕ) : Type 0 where
+  pub same : r .number ≡ 0 → readPlan (take (r .value) is) ≡ accepted p fs

@@ -2,7 +2,7 @@
 ghost use mathlib.Core.Path.{_≡_};
 ghost use Prim.Native.Nat.{min};
 ghost use lib.ListN.{length};
-ghost use Rattle.writer.specs.Written.{listed, returned, left};
+ghost use Rattle.writer.specs.Written.{listed, returned, left, GivenBack};
 use framing::returned::Outcome;
 use framing::returned::Returned;
 use plan::Plan;
@@ -23,7 +23,7 @@ fn at_most_64(count: usize) -> usize
 // Writes the plan of these flows, the first `count`, if the reader accepts its bytes and the buffer has room for them: they
 // are written into a buffer of our own first, and read there. A refusal leaves the lent buffer as it was.
 pub fn write(platform: Platform, flows: Flows, count: usize, buffer: &mut [u8]) -> Returned
-    ensures { λ r. ⌜ (r ≡ returned platform (listed flows count) (length (now (buffer .entry)))) × (now (buffer .exit) ≡ left platform (listed flows count) (now (buffer .entry))) ⌝ }
+    ensures { λ r. ⌜ (r ≡ returned platform (listed flows count) (length (now (buffer .entry)))) × (now (buffer .exit) ≡ left platform (listed flows count) (now (buffer .entry))) × GivenBack platform (listed flows count) r (now (buffer .exit)) ⌝ }
 {
     let kept = at_most_64(count);
     let size = 12 + 23 * kept;
@@ -59,7 +59,7 @@ pub fn write(platform: Platform, flows: Flows, count: usize, buffer: &mut [u8]) 
 // The same for C: the plan is passed by value, the buffer as a pointer and a length.
 #[no_mangle]
 pub extern "C" fn lingfallow_write(plan: Plan, buffer: &mut [u8]) -> Returned
-    ensures { λ r. ⌜ (r ≡ returned (plan .platform) (listed (plan .flows) (plan .count)) (length (now (buffer .entry)))) × (now (buffer .exit) ≡ left (plan .platform) (listed (plan .flows) (plan .count)) (now (buffer .entry))) ⌝ }
+    ensures { λ r. ⌜ (r ≡ returned (plan .platform) (listed (plan .flows) (plan .count)) (length (now (buffer .entry)))) × (now (buffer .exit) ≡ left (plan .platform) (listed (plan .flows) (plan .count)) (now (buffer .entry))) × GivenBack (plan .platform) (listed (plan .flows) (plan .count)) r (now (buffer .exit)) ⌝ }
 {
     let platform = plan.platform;
     let flows = plan.flows;

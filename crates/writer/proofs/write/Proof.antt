@@ -3,6 +3,7 @@ use mathlib.Core.Path.{sym}
 use lib.Seq.{length-take-le}
 use borrow.Author.Needs.{needs}
 use Rattle.writer.proofs.Returning.{written-refused, written-longer, written-short, written-whole}
+use Rattle.writer.proofs.Typed.{flows-typed}
 use Rattle.writer.proofs.write.Statement.{statement}
 use Rattle.writer.proofs.write.Tie as tie
 
@@ -52,7 +53,7 @@ same-length : tie.Need-same-length
 same-length c = search needs
 
 returns-4 : tie.Need-returns-4
-returns-4 c = written-whole (c .before .before .before .before .before .before .before .before .before .before .before .before .before .before .before .args .platform) (c .before .before .before .before .before .before .before .before .before .before .before .before .before .before .before .args .flows) (c .before .before .before .before .before .before .before .before .before .before .before .before .before .before .before .args .count) _ (search needs) (c .before .before .before .before .before .before .before .before .before .before .before .before .before .at-most-64 .ensures) _ (c .before .before .before .before .before .before .before .before .before .before .before .put-plan .ensures) (c .before .before .before .before .before .before .before .before .read .ensures) (c .before .before .before .before .before .if1 .left) (c .before .before .before .before .before .before .enum-told .given .1) (c .before .before .before .before .if2 .left) (c .before .before .put-plan2 .ensures)
+returns-4 c = written-whole (c .before .before .before .before .before .before .before .before .before .before .before .before .before .before .before .args .platform) (c .before .before .before .before .before .before .before .before .before .before .before .before .before .before .before .args .flows) (c .before .before .before .before .before .before .before .before .before .before .before .before .before .before .before .args .count) _ (search needs) (c .before .before .before .before .before .before .before .before .before .before .before .before .before .at-most-64 .ensures) _ (c .before .before .before .before .before .before .before .before .before .before .before .put-plan .ensures) (c .before .before .before .before .before .before .before .before .read .ensures) (c .before .before .before .before .before .if1 .left) (flows-typed (c .before .before .before .before .before .before .before .before .before .before .before .before .before .before .before .args .flows) (c .before .before .before .before .before .before .before .before .before .before .before .before .before .before .before .good .1 .0 .0) (c .before .before .before .before .before .before .before .before .before .before .before .before .before .before .before .good .1 .0 .1 .1)) (c .before .before .before .before .before .before .enum-told .given .1) (c .before .before .before .before .if2 .left) (c .before .before .put-plan2 .ensures)
 
 pub write-spec : {M : Type 1} → statement M
 write-spec =
