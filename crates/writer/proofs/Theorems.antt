@@ -74,6 +74,7 @@ module _ (p : Platform) (fs : List Flow) (held : List ℕ) where
       let l = length-plan p fs in
       sym (room-enough (length bytes) bytes held (ap (λ (r : Reading). r .outcome) (written-exactly p fs .1 w)) (omega arith) .0) ∙ ap acceptedWith l
 
+  -- The other way by the promise of what is read back: other values could have the same bytes, if they were too large for their fields.
   pub written-legal : GivenBack p fs (returned p fs (length held)) (left p fs held) → returned p fs (length held) .number ≡ 0 → Legal p fs × (12 + 23 * length fs ≤ length held)
   written-legal = go came
     where
