@@ -16,5 +16,6 @@ Fits [] values = Unit {0}
 Fits (f ∷ fields) [] = Unit {0}
 Fits (f ∷ fields) (v ∷ values) = (v < 256 ^ bytesOf (width f)) × Fits fields values
 
+-- Those of every flow. A platform's values, a byte each, are written as they stand and read back whatever they are.
 abbrev pub FitsEach : List Flow → Type 0
 FitsEach fs = (k : ℕ) → k < length fs → Fits (fieldsOf FlowRecord) (flowValues (flow fs k))
