@@ -2,6 +2,7 @@
 use Prim.Native.Nat.{_-_}
 use mathlib.Core.Path.{ap}
 use lib.ListN.{replicate}
+use Rattle.plan_values.specs.Values.{blankFlow}
 use Rattle.pairs.specs.Spots.{noSpots, spotsIn}
 use Rattle.pairs.proofs.Filling.{Filling, filling-none, filling-room, filling-more, filling-all}
 use Rattle.pairs.proofs.Standing.{flow-ends}
@@ -29,7 +30,10 @@ array-copy-out-f : tie.Need-array-copy-out-f Inv-loop μ-loop
 array-copy-out-f c = search needs
 
 spots-of-requires : tie.Need-spots-of-requires Inv-loop μ-loop
-spots-of-requires c κs = flow-ends (c .before .before .before .before .pre) (c .before .before .loop .i) _ (c .before .loop-test .taken)
+-- The two nodes in either order, so that what refuses another order is the result.
+spots-of-requires c κs =
+    let ends = flow-ends (c .before .before .before .before .pre) (c .before .before .loop .i) blankFlow (c .before .loop-test .taken) in
+    record { from = search ends; to = search ends }
 
 mul-spots : tie.Need-mul-spots Inv-loop μ-loop
 mul-spots c = search needs
