@@ -109,7 +109,7 @@ def rows_of_promises():
 
 
 def faults_of_row(crate, own, function, edits):
-    """A function for strangers has two wrong answers, one at least in its own crate; one for its family is used by its family alone."""
+    """A function for strangers has two wrong answers in its own crate; one for its family is used by its family alone."""
     faults = [f"{where} has no edit {edit}" for where, edit in edits if edit not in EDITS[where]]
     if function not in public_functions(crate):
         faults.append(f"{crate} has no public {function}")
@@ -119,9 +119,8 @@ def faults_of_row(crate, own, function, edits):
         if not users:
             faults.append(f"{crate}::{function} is used by nobody in its family")
     else:
-        near = [where for where, _ in edits if family(where) == family(crate)]
-        if len(near) < 2 or crate not in near:
-            faults.append(f"{crate}::{function} has fewer than two wrong answers")
+        if len([edit for where, edit in edits if where == crate]) < 2:
+            faults.append(f"{crate}::{function} has fewer than two wrong answers in its own crate")
     return [f"PROMISES.md: {fault}" for fault in faults]
 
 
