@@ -14,7 +14,7 @@ pub fn wide8(x: u8) -> u32
     x as u32
 }
 
-pub fn wide16(x: u16) -> u32
+pub(crate) fn wide16(x: u16) -> u32
     ensures { λ r. ⌜ (r ≡ x) × (r < 65536) ⌝ }
 {
     x as u32
