@@ -16,8 +16,9 @@ use Rattle.recurrence.specs.Sums.{sumOver}
 use Rattle.recurrence.proofs.Sums.{sum-last}
 use Rattle.model.specs.Interference.{keep, those}
 use Rattle.engine_terms.specs.Loads.{sumTo}
+use Rattle.engine_rows.specs.Filled.{Blank}
 use Rattle.engine_rows.specs.Places.{places, Listed, Dealt}
-use Rattle.engine_rows.proofs.Placing.{set-cell}
+use Rattle.engine_rows.proofs.Placing.{set-cell, blank-none, blank-room, blank-more}
 
 -- ---- the loop that lists them
 pub record Naming (test : ℕ → Bool) (count : ℕ) (cells : List ℕ) (n k : ℕ) : Type 0 where
@@ -26,10 +27,11 @@ pub record Naming (test : ℕ → Bool) (count : ℕ) (cells : List ℕ) (n k : 
   pub within : k ≤ count
   pub below : n ≤ k
   pub held : take n cells ≡ places test k
+  pub empty : Blank 0 cells n
 
-pub naming-none : (test : ℕ → Bool) (count : ℕ) (cells : List ℕ) → count ≤ 64 → length cells ≡ 64 → Naming test count cells 0 0
+pub naming-none : (test : ℕ → Bool) (count : ℕ) (cells : List ℕ) → count ≤ 64 → cells ≡ replicate 64 0 → Naming test count cells 0 0
 unfolding places
-naming-none test count cells h r = record { few = h; room = r; within = omega arith; below = omega arith; held = refl }
+naming-none test count cells h e = record { few = h; room = blank-room 0 e; within = omega arith; below = omega arith; held = refl; empty = blank-none 0 e }
 
 next-places : (test : ℕ → Bool) (k : ℕ) {b : Bool} → test k ≡ b → places test (k + 1) ≡ places test k ++ cond b (k ∷ []) []
 unfolding places
@@ -47,6 +49,7 @@ module _ {test : ℕ → Bool} {count : ℕ} {cells : List ℕ} {n k : ℕ} (w :
         ∙ take-suc-set cells n x (omega (arith, w .below, w .few, w .room))
         ∙ ap₂ (λ (l : List ℕ) (y : ℕ). l ++ y ∷ []) (w .held) e
         ∙ sym (next-places test k t);
+    empty = blank-more x (omega (arith, w .below, w .few, w .room)) (w .empty);
   }
 
   pub naming-skip : k < count → test k ≡ false → Naming test count cells n (k + 1)
@@ -56,6 +59,7 @@ module _ {test : ℕ → Bool} {count : ℕ} {cells : List ℕ} {n k : ℕ} (w :
     within = omega arith;
     below = omega (arith, w .below);
     held = w .held ∙ sym (append-nil (places test k)) ∙ sym (next-places test k t);
+    empty = w .empty;
   }
 
   pub naming-all : count ≤ k → Listed test count cells n

@@ -23,7 +23,7 @@ searching-none passes priority count lowest h = record {
   few = h;
   within = omega arith;
   top = omega arith;
-  highest = record { found = λ l. absurd (omega arith); least = λ l. absurd (omega arith); none = λ l k g. absurd (omega arith) };
+  highest = record { found = λ l. absurd (omega arith); least = λ l. absurd (omega arith); first = λ l. absurd (omega arith); none = λ l k g. absurd (omega arith) };
   lowest-is = λ l. absurd (omega arith);
 }
 
@@ -38,16 +38,17 @@ module _ {passes : ℕ → Bool} {priority : ℕ → ℕ} {count best lowest k :
         top = omega (arith, w .few);
         highest = record {
           found = λ l. (omega arith, and-left (passes k) _ p);
-          least = λ l. below-more _ k (λ m g q. before m g q (and-right (passes k) _ p)) (λ q. le-refl _);
+          least = λ l. below-more _ k (λ m g q. omega (arith, before m g q (and-right (passes k) _ p))) (λ q. le-refl _);
+          first = λ l m g q. before m g q (and-right (passes k) _ p);
           none = λ l. absurd (omega (arith, w .few));
         };
         lowest-is = λ l. refl;
       }
     where
-      before : (m : ℕ) → m < k → passes m ≡ true → (eqb best 64 || ltb (priority k) lowest) ≡ true → priority k ≤ priority m
+      before : (m : ℕ) → m < k → passes m ≡ true → (eqb best 64 || ltb (priority k) lowest) ≡ true → priority k < priority m
       before m g q o = go (decLt best 64)
         where
-          go : Dec (best < 64) → priority k ≤ priority m
+          go : Dec (best < 64) → priority k < priority m
           go (yes l) = let u = ltb-true (priority k) lowest (rw (ne-eqb best 64 (omega arith)) at o) in omega (arith, w .lowest-is l, w .highest .least l m g q)
           go (no n) = absurd (w .highest .none (omega arith) m g q)
 
@@ -60,6 +61,7 @@ module _ {passes : ℕ → Bool} {priority : ℕ → ℕ} {count best lowest k :
         highest = record {
           found = λ l. let o = w .highest .found l in (omega (arith, o), o .1);
           least = λ l. below-more _ k (w .highest .least l) (λ q. over l q);
+          first = w .highest .first;
           none = λ l. below-more _ k (w .highest .none l) (λ q. never l q);
         };
         lowest-is = w .lowest-is;

@@ -4,7 +4,7 @@ ghost use Prim.Native.Nat.{_≤_};
 ghost use Rattle.engine_terms.specs.Loads.{directBy};
 ghost use Rattle.pairs.specs.Scene.{Scene};
 ghost use Rattle.plan.specs.Legal.{flow as flow-at};
-ghost use Rattle.engine_rows.specs.Filled.{Filled};
+ghost use Rattle.engine_rows.specs.Filled.{Filled, Blank};
 ghost use Rattle.engine_rows.specs.Rows.{Rowed};
 use engine_costs::numbers::Bytes;
 use pairs::PairRow;
@@ -22,7 +22,7 @@ pub struct Row {
 
 pub fn priorities_of(plan: Plan) -> Priorities
     requires { ⌜ Scene (plan .platform) (plan .flows) (plan .count) ⌝ }
-    ensures { λ r. ⌜ Filled 0 (λ k. flow-at (plan .flows) k .priority) r (plan .count) ⌝ }
+    ensures { λ r. ⌜ Filled 0 (λ k. flow-at (plan .flows) k .priority) r (plan .count) × Blank 0 r (plan .count) ⌝ }
 {
     let flows = plan.flows;
     let count = plan.count;

@@ -28,7 +28,7 @@ blank-answer-requires : tie.Need-blank-answer-requires Inv-loop μ-loop
 blank-answer-requires c κs = search needs
 
 loop-holds : tie.Need-loop-holds Inv-loop μ-loop
-loop-holds c = answering-none (c .before .before .before .before .pre .0) (c .before .before .before .before .pre .1) (c .before .priorities-of .ensures) (search needs) (search needs) (search needs) (search needs) (ap (replicate 64) (c .blank-answer .ensures))
+loop-holds c = answering-none (c .before .before .before .before .pre .0) (c .before .before .before .before .pre .1) (c .before .priorities-of .ensures .0) (search needs) (search needs) (search needs) (search needs) (ap (replicate 64) (c .blank-answer .ensures))
 
 next-flow-requires : tie.Need-next-flow-requires Inv-loop μ-loop
 next-flow-requires c κs = c .before .loop .inv .scene .few

@@ -1,6 +1,6 @@
 -- `engine_rows::rows::priorities_of` meets its contract.
 use Prim.Native.Nat.{_-_}
-use mathlib.Core.Path.{ap}
+use mathlib.Core.Path.{refl, ap}
 use Rattle.plan_values.specs.declared.Flow.{Flow}
 use Rattle.plan.specs.Legal.{flow}
 use Rattle.engine_rows.proofs.Scenes.{scene-read}
@@ -16,7 +16,7 @@ abbrev μ-loop : tie.MeasureT-loop
 μ-loop flows count priorities₀ k₀ priorities k = count - k
 
 loop-holds : tie.Need-loop-holds Inv-loop μ-loop
-loop-holds c = placing-none _ _ _ (c .before .pre .few) (search needs)
+loop-holds c = placing-none _ _ _ (c .before .pre .few) refl
 
 mul-f : tie.Need-mul-f Inv-loop μ-loop
 mul-f c = search needs

@@ -21,7 +21,7 @@ abbrev μ-loop : tie.MeasureT-loop
 μ-loop priorities own count pairs shared₀ firsts₀ direct₀ many₀ k₀ shared firsts direct many k = count - k
 
 loop-holds : tie.Need-loop-holds Inv-loop μ-loop
-loop-holds c = (placing-none _ _ _ (c .pre) (search needs), placing-none _ _ _ (c .pre) (search needs), naming-none _ _ _ (c .pre) (search needs))
+loop-holds c = (placing-none _ _ _ (c .pre) refl, placing-none _ _ _ (c .pre) refl, naming-none _ _ _ (c .pre) refl)
 
 mul-pair : tie.Need-mul-pair Inv-loop μ-loop
 mul-pair c = search needs
@@ -73,7 +73,9 @@ loop-again c = let l = c .before .before .before .before .before .loop in
 
 returns : tie.Need-returns Inv-loop μ-loop
 returns c = let l = c .before .loop in
-    record { shares = placing-all (l .inv .0) (search needs); begins = placing-all (l .inv .1) (search needs); lists = naming-all (l .inv .2) (search needs) }
+    let s = placing-all (l .inv .0) (search needs) in
+    let b = placing-all (l .inv .1) (search needs) in
+    record { shares = s .0; begins = b .0; lists = naming-all (l .inv .2) (search needs); shares-end = s .1; begins-end = b .1; lists-end = l .inv .2 .empty }
 
 pub row-of-spec : {M : Type 1} → statement M
 row-of-spec =
