@@ -17,7 +17,7 @@ period-at-requires : tie.Need-period-at-requires
 period-at-requires c κs = search needs
 
 returns : tie.Need-returns
-returns c = cc
+returns c = rw (c .period-at .ensures)
 
 pub limits-at-spec : {M : Type 1} → statement M
 limits-at-spec = tie.close (tie.spec cast-t5 cast-t6 mul-t7 period-at-requires returns)

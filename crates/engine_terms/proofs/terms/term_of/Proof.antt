@@ -13,7 +13,7 @@ add-t9 : tie.Need-add-t9
 add-t9 c = search needs
 
 returns : tie.Need-returns
-returns c = cc
+returns c = rw (c .before .allowance .ensures .0)
 
 pub term-of-spec : {M : Type 1} → statement M
 term-of-spec = tie.close (tie.spec allowance-requires add-t8 add-t9 returns)
