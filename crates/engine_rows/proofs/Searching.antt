@@ -78,3 +78,23 @@ module _ {passes : ℕ → Bool} {priority : ℕ → ℕ} {count best lowest k :
 
 pub searching-all : {passes : ℕ → Bool} {priority : ℕ → ℕ} {count best lowest k : ℕ} → Searching passes priority count best lowest k → count ≤ k → (best ≤ 64) × Highest passes priority count best
 searching-all {passes} {priority} {count} {best} {lowest} {k} w h = let e : k ≡ count = omega (arith, w .within) in (w .top, rw e at (w .highest))
+
+-- ---- two places that a search may find are one
+module _ {passes : ℕ → Bool} {priority : ℕ → ℕ} {n : ℕ} where
+  no-earlier : (a b : ℕ) → Highest passes priority n a → (b ≤ 64) × Highest passes priority n b → a < b → ⊥
+  no-earlier a b u v l = go (decLt b 64)
+    where
+      is : (a < n) × (passes a ≡ true)
+      is = u .found (omega (arith, v .0))
+
+      go : Dec (b < 64) → ⊥
+      go (yes h) = let o = v .1 .found h in omega (arith, v .1 .first h a l (is .1), u .least (omega arith) b (o .0) (o .1))
+      go (no m) = v .1 .none (omega arith) a (is .0) (is .1)
+
+  pub highest-once : (a b : ℕ) → (a ≤ 64) × Highest passes priority n a → (b ≤ 64) × Highest passes priority n b → a ≡ b
+  highest-once a b u v = go (decLt a b) (decLt b a)
+    where
+      go : Dec (a < b) → Dec (b < a) → a ≡ b
+      go (yes l) d = absurd (no-earlier a b (u .1) v l)
+      go (no m) (yes l) = absurd (no-earlier b a (v .1) u l)
+      go (no m) (no o) = omega arith
