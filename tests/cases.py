@@ -26,7 +26,7 @@ def u(width, value):
 # ---- a reader of its own: it splits the bytes into records first and looks at each by a list of rules
 
 PLATFORM, FLOW, END = 0x01, 0x02, 0x7F
-LENGTHS = {PLATFORM: 6, FLOW: 20, END: 0}
+LENGTHS = {PLATFORM: (6, 7), FLOW: (20,), END: (0,)}
 FLOW_LAYOUT = ">HHBBHIII"
 
 
@@ -45,17 +45,18 @@ def header(data, at, first, flows):
     need(tag in LENGTHS, 2, at)
     need((tag == PLATFORM) == first, 4, at)
     size = int.from_bytes(data[at + 1:at + 3], "big")
-    need(size == LENGTHS[tag], 3, at + 1)
+    need(size in LENGTHS[tag], 3, at + 1)
     need(at + 3 + size <= len(data), 1, at)
     need(not (tag == FLOW and flows == 64), 6, at)
     return tag, data[at + 3:at + 3 + size]
 
 
 def platform_of(body, at):
-    limits = [(1, 8), (1, 8), (1, 16), (0, 16), (1, 64), (0, 3)]
-    for k, (low, high) in enumerate(limits):
-        need(low <= body[k] <= high, 20 + k, at + 3 + k)
-    return list(body)
+    limits = [(1, 8), (1, 8), (1, 16), (0, 16), (1, 64), (0, 3), (1, 8)]
+    for k, value in enumerate(body):
+        low, high = limits[k]
+        need(low <= value <= high, 20 + k, at + 3 + k)
+    return [*body, 0][:7]  # a six-byte record means zero priority flits
 
 
 def flow_of(body, at, platform, flows):
@@ -99,7 +100,7 @@ def up(a, b):
 
 class Analysis:
     def __init__(self, platform, flows):
-        self.columns, self.rows, self.link, self.routing, self.buffer, method = platform
+        self.columns, self.rows, self.link, self.routing, self.buffer, method, self.priority_flits = platform
         self.method = 2 if method == 0 else method
         self.flows = {f[0]: f for f in flows}
         self.routes = {f[0]: route(self.columns, f[2], f[3]) for f in flows}
@@ -115,7 +116,7 @@ class Analysis:
 
     def latency(self, i):
         length = len(self.routes[i])
-        return self.link * (self.flows[i][4] + length - 1) + self.routing * (length - 1)
+        return self.link * (self.flows[i][4] + self.priority_flits + length - 1) + self.routing * (length - 1)
 
     def sides(self, i, j):
         """The flows that are direct for j and not for i: upstream and downstream for (i, j)."""
@@ -179,7 +180,7 @@ def line(data):
         answers = Analysis(platform, flows).answers
         numbers += [v for f in flows for v in (f[0], *answers[f[0]])]
     except Refusal as refusal:
-        numbers = list(refusal.args) + [0] * 6
+        numbers = list(refusal.args) + [0] * 7
     return "".join(f"{n} " for n in numbers) + "\n"
 
 
@@ -219,6 +220,18 @@ def changed(data, *changes):
 def with_jitters(data, jitters):
     """The plan with these jitters, in plan order."""
     return changed(data, *((9 + 23 * place + 19, u(4, jitter)) for place, jitter in enumerate(jitters)))
+
+
+def with_seventh(data, flits):
+    """The plan, whose platform record has six bytes, with a seventh."""
+    assert data[:3] == b"\x01\0\6"
+    return changed(data[:9], (2, b"\7")) + bytes([flits]) + data[9:]
+
+
+def with_more_flits(data, more):
+    """The plan with so many flits more in each flow."""
+    places = range(9 + 9, len(data) - 3, 23)
+    return changed(data, *((at, u(2, int.from_bytes(data[at:at + 2], "big") + more)) for at in places))
 
 
 def framing_cases():
@@ -432,11 +445,80 @@ def random_cases():
         yield data
 
 
+def priority_flit_figures():
+    """Document 02's L7: method and seventh byte of P, and the bound and rounds of its flows 2, 3 and 5, worked out by hand."""
+    yield 3, 1, ((63, 1), (331, 2), (398, 2))
+    yield 3, 2, ((64, 1), (334, 2), (400, 2))
+    yield 3, 8, ((70, 1), (352, 2), (412, 2))
+    yield 1, 2, ((64, 1), (334, 2), (340, 2))
+    yield 2, 2, ((64, 1), (334, 2), (468, 2))
+    yield 0, 2, ((64, 1), (334, 2), (468, 2))
+
+
+def outcome_of(data):
+    try:
+        read(data)
+        return 0, 0
+    except Refusal as refusal:
+        return refusal.args
+
+
+def seventh_byte_cases():
+    """The byte's values, each method with it, the record's length over the same bytes, and 65,535 flits with the most priority flits."""
+    for flits in (0, 9, 255):
+        assert outcome_of(with_seventh(P, flits)) == (26, 9)
+        yield with_seventh(P, flits)
+        yield with_seventh(changed(P, (8, b"\4")), flits)  # 25 comes first
+        yield with_seventh(changed(P, (9, b"\5")), flits)  # and an unknown tag behind the record later
+        yield with_seventh(platform() + END_RECORD, flits)
+    for method, flits, expected in priority_flit_figures():
+        data = with_seventh(changed(P, (8, bytes([method]))), flits)
+        assert tuple(answer[2:] for answer in answers_of(data).values()) == expected, (method, flits, answers_of(data))
+        yield data
+    for size in (0, 5, 6, 7, 8, 263, 1792):
+        yield changed(with_seventh(P, 2), (1, u(2, size)))
+        yield changed(with_seventh(P, 0), (1, u(2, size)))
+    data = platform(8, 8, 16, 16, 64, 3) + flow(1, 1, 0, 63, 65535, BILLION, BILLION) + END_RECORD
+    assert answers_of(with_seventh(data, 8)) == {1: (0, 65535, 16 * (65535 + 8 + 15) + 16 * 15, 1)}
+    yield with_seventh(data, 8)
+
+
+def moved_cases():
+    """The plans of before with a seventh byte: the same is refused, and behind the platform's fields one byte later."""
+    yield with_seventh(P, 2)[:9]
+    for data in (*framing_cases(), *field_cases(), *clash_cases(), *node_cases()):
+        if len(data) >= 9 and data[:3] == P[:3]:
+            number, place = outcome_of(data)
+            assert outcome_of(with_seventh(data, 2)) == (number, place if place < 9 else place + 1)
+            yield with_seventh(data, 2)
+    assert len(with_seventh(many(64), 2)) == 1485
+    assert outcome_of(with_seventh(many(65), 2)) == (6, 1482)
+
+
+def alike_cases():
+    """Random plans in pairs: so many priority flits, and as many flits more in each flow. The answers are equal."""
+    chance = random.Random(SEED + 3)
+    for data in [*tick_cases()][::4]:
+        flits = chance.randint(1, 8)
+        pair = with_seventh(data, flits), with_more_flits(data, flits)
+        assert answers_of(pair[0]) == answers_of(pair[1])
+        yield from pair
+
+
+def damaged_cases():
+    """Random plans with a seventh byte in and around its values, some damaged besides."""
+    chance = random.Random(SEED + 4)
+    for data in [*random_cases()][::4]:
+        if len(data) >= 9 and data[:3] == P[:3]:
+            yield with_seventh(data, chance.choice((0, 1, 8, 9, chance.randint(1, 8), chance.randrange(256))))
+
+
 def main():
     plans = [*framing_cases(), *field_cases(), *clash_cases(), *node_cases(), *published_cases(), *busy_cases(), *random_cases(), *tick_cases()]
+    plans += [*seventh_byte_cases(), *moved_cases(), *alike_cases(), *damaged_cases()]
     lines = [line(data) for data in plans]
     seen = {int(text.split()[0]) for text in lines}
-    outcomes = {*range(5), *range(6, 11), *range(20, 26), *range(30, 39)}
+    outcomes = {*range(5), *range(6, 11), *range(20, 27), *range(30, 39)}
     if seen != outcomes:
         sys.exit(f"cases: no plan for outcome {sorted(outcomes - seen)}, or an outcome of no document: {sorted(seen - outcomes)}")
     files = {ROOT / "data" / "plans": b"".join(u(2, len(data)) + data for data in plans), ROOT / "stdout": "".join(lines).encode()}

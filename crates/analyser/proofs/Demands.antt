@@ -11,7 +11,7 @@ use mathlib.Core.List.{List, _++_}
 use native.Mathlib.Decide.{decLt}
 use native.Mathlib.Omega.{arith}
 use lib.ListN.{length, take, drop}
-use Rattle.framing.specs.Header.{Headed}
+use Rattle.framing.specs.Header.{lengthAt, Headed}
 use Rattle.framing_numbers.specs.Numbers.{Bytes}
 use Rattle.framing.specs.Returned.{refusedWith, acceptedWith}
 use Rattle.framing.specs.declared.returned.Returned.{Returned}
@@ -63,7 +63,7 @@ pub data Offered (bytes held : List ℕ) : Returned → List ℕ → Type 0 wher
   -- "or, only for a fault listed in document 01, a numbered refusal with its place": "On refusal the reply buffer is untouched".
   -- The first line of the table that holds of the first record in fault gives it; the number says which record and which field that is, and the place
   -- is there.
-  sent-back : (number place : ℕ) → RefusedBecause bytes number place → Listed number place → place ≤ length bytes → Offered bytes held (refusedWith number place) held
+  sent-back : (number place : ℕ) → RefusedBecause bytes number place → Listed (lengthAt bytes 0) number place → place ≤ length bytes → Offered bytes held (refusedWith number place) held
   -- "11 | the reply buffer is too short | 0"
   too-short : (p : Platform) (fs : List Flow) → Laid bytes p fs → Legal p fs → length held < 16 * length fs + 3 → Offered bytes held (refusedWith 11 0) held
 

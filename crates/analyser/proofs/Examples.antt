@@ -11,7 +11,8 @@ use Rattle.framing.specs.First.{_when_else_}
 use Rattle.framing.specs.Each.{each}
 use Rattle.framing.specs.Returned.{refusedWith, acceptedWith, roomFor, putInto, returnedBy, leftBy}
 use Rattle.framing.specs.declared.returned.Returned.{Returned}
-use Rattle.plan_table.specs.Table.{tagOf}
+use Rattle.plan_table.specs.Table.{tagOf, sixOrSeven}
+use Rattle.plan_values.specs.Values.{priorityFlitsAt}
 use Rattle.plan_checks.specs.Checks.{headerAt, taggedAt, frameAt, clashAt, tailAt, restAt}
 use Rattle.plan.specs.Records.{fieldsFrom, _then_, bodyAt, recordAt}
 use Rattle.plan.specs.Reading.{accepted, refused, after, records, readPlan}
@@ -69,7 +70,7 @@ table =
     ∷ []
 
 replies : (map (λ r. returned (r .bytes) (r .room)) table ≡ map (λ r. r .result) table) × (map (λ r. left (r .bytes) (buffer (r .room))) table ≡ map (λ r. r .holds) table)
-unfolding tagOf headerAt taggedAt frameAt fieldsFrom clashAt tailAt restAt _then_ bodyAt recordAt accepted refused after records readPlan _when_else_ hops along xy on domain first-from up sumOver comesToFrom comesTo methodUsed latency directFor indirectFor comesBefore those allowance weight term terms highest judged judge verdictBelow verdict answers recordOf each returnedBy leftBy roomFor putInto
+unfolding tagOf sixOrSeven priorityFlitsAt headerAt taggedAt frameAt fieldsFrom clashAt tailAt restAt _then_ bodyAt recordAt accepted refused after records readPlan _when_else_ hops along xy on domain first-from up sumOver comesToFrom comesTo methodUsed latency directFor indirectFor comesBefore those allowance weight term terms highest judged judge verdictBelow verdict answers recordOf each returnedBy leftBy roomFor putInto
 replies = (refl, refl)
 
 -- "These must be turned down": what P's offer comes to, with a buffer of 51 bytes, is none of what these programs give.

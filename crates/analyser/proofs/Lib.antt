@@ -3,4 +3,5 @@ mod Telling
 mod Bytes
 mod Deciding
 pub mod Demands
+pub mod PriorityFlits
 mod Examples

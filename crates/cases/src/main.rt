@@ -24,6 +24,7 @@ fn put_platform(p: Platform) {
     put(p.routing as u64);
     put(p.buffer as u64);
     put(p.method as u64);
+    put(p.priority_flits as u64);
 }
 
 fn put_flow(f: Flow) {

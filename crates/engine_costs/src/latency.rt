@@ -20,11 +20,11 @@ pub fn limit(f: Flow) -> u32
     }
 }
 
-// The flits that the unloaded latency is worked out from.
+// The flits that the unloaded latency is worked out from: the packet's and those of its priority.
 fn flits_sent(p: Platform, f: Flow) -> u32
     ensures { λ r. ⌜ r ≡ flitsSent p f ⌝ }
 {
-    wide16(f.flits)
+    wide16(f.flits) + wide8(p.priority_flits)
 }
 
 // From the route's length, which is what a flow shares with itself.

@@ -5,7 +5,8 @@ use mathlib.Core.List.{List, [], _∷_, _++_, map}
 use lib.ListN.{take, set}
 use Rattle.framing.specs.First.{_when_else_}
 use Rattle.framing.specs.Each.{each}
-use Rattle.plan_table.specs.Table.{tagOf}
+use Rattle.plan_table.specs.Table.{tagOf, sixOrSeven}
+use Rattle.plan_values.specs.Values.{priorityFlitsAt}
 use Rattle.plan_checks.specs.Checks.{headerAt, taggedAt, frameAt, clashAt, tailAt, restAt}
 use Rattle.plan.specs.Records.{fieldsFrom, _then_, bodyAt, recordAt}
 use Rattle.plan.specs.Reading.{accepted, refused, after, records, readPlan}
@@ -63,5 +64,5 @@ abbrev printed : List (List ℕ)
 printed = (meshOf 51 ++ flowsOfP) ∷ (meshOf 51 ++ lateText) ∷ meshOf 50 ∷ cutText ∷ bufferText ∷ []
 
 texts : map textOf offered ≡ printed
-unfolding tagOf headerAt taggedAt frameAt fieldsFrom clashAt tailAt restAt _then_ bodyAt recordAt accepted refused after records readPlan _when_else_ hops along xy on domain first-from up sumOver comesToFrom comesTo methodUsed latency directFor indirectFor comesBefore those allowance weight term terms highest judged judge verdictBelow verdict answers each digitsBelow decimal item meshStart meshLine told flowLine refusalLine textBy
+unfolding tagOf sixOrSeven priorityFlitsAt headerAt taggedAt frameAt fieldsFrom clashAt tailAt restAt _then_ bodyAt recordAt accepted refused after records readPlan _when_else_ hops along xy on domain first-from up sumOver comesToFrom comesTo methodUsed latency directFor indirectFor comesBefore those allowance weight term terms highest judged judge verdictBelow verdict answers each digitsBelow decimal item meshStart meshLine told flowLine refusalLine textBy
 texts = refl

@@ -8,9 +8,11 @@ use native.Mathlib.Numerals.{add-one}
 use lib.ListN.{length, take, getD, length-map}
 use lib.Seq.{take-all}
 use Rattle.framing.specs.Each.{each}
+use Rattle.framing.specs.Header.{lengthAt}
 use Rattle.framing.specs.declared.returned.Returned.{Returned}
 use Rattle.framing.proofs.Each.{each-more}
 use Rattle.plan_values.specs.Values.{platformAt}
+use Rattle.plan_values.proofs.Seventh.{length-within}
 use Rattle.plan_values.specs.declared.Platform.{Platform}
 use Rattle.plan_values.specs.declared.Flow.{Flow}
 use Rattle.plan.specs.declared.Reading.{Reading}
@@ -44,7 +46,7 @@ pub record Lines (bytes is text : List ℕ) (long n : ℕ) : Type 0 where
   pub few : n ≤ 64
   pub whole : long ≤ length is
   -- "First the mesh": the reply does not hold it; its values stand in the plan's first record, which is there.
-  pub mesh : 9 ≤ length bytes
+  pub mesh : (9 ≤ length bytes) × (3 + lengthAt bytes 0 ≤ length bytes)
   -- "Then per flow": id, verdict and numbers of each line are those that stand in the record.
   pub lines : text ≡ meshLine (platformAt bytes 0) ++ recordLines is n
   -- "one of three verdicts": no line says `waits` for a number that is not 2.
@@ -79,7 +81,7 @@ module _ (bytes held : List ℕ) where
       size = refl;
       few = f .legal .few;
       whole = omega (arith, f .room, read-back bytes held f .long);
-      mesh = omega (arith, f .laid .nothing-else);
+      mesh = (omega (arith, f .laid .nothing-else, length-within p .0), omega (arith, f .laid .nothing-else, f .laid .platform .0 .size-is));
       lines = text-is ∙ rw (f .laid .platform .1, lines-are (length fs) (omega arith), take-all (length fs) (answers p fs) (omega (arith, many)));
       one-of-three = λ k l. demand-2 bytes held f .each k l .one-of-three;
     }

@@ -10,7 +10,7 @@ use Rattle.lines_items.specs.Items.{item}
 use Rattle.lines_mesh.specs.Mesh.{meshStart, meshLine}
 
 abbrev mesh : (columns rows link routing buffer method : ℕ) → Platform
-mesh columns rows link routing buffer method = record { columns = columns; rows = rows; link = link; routing = routing; buffer = buffer; method = method }
+mesh columns rows link routing buffer method = record { columns = columns; rows = rows; link = link; routing = routing; buffer = buffer; method = method; «priority_flits» = 0 }
 
 -- "First the mesh: columns by rows, link cycles, routing cycles, buffer flits, the method really used."
 meshes :
@@ -22,3 +22,8 @@ meshes :
     ∷ []
 unfolding methodUsed _when_else_ digitsBelow decimal item meshStart meshLine
 meshes = refl
+
+-- "The program's mesh line stays as it is": it has no number for priority flits.
+stays : (p : Platform) (flits : ℕ) → meshLine (record { columns = p .columns; rows = p .rows; link = p .link; routing = p .routing; buffer = p .buffer; method = p .method; «priority_flits» = flits }) ≡ meshLine p
+unfolding meshStart meshLine methodUsed
+stays p flits = refl

@@ -15,6 +15,7 @@ use Rattle.model.specs.declared.Method.{Method}
 use Rattle.model.specs.declared.Method.the-variants.{SB, XLWX, IBN}
 use Rattle.model.specs.declared.Verdict.{Verdict}
 use Rattle.model.specs.declared.Verdict.the-variants.{Bounded, Late, Waits}
+use Rattle.model.proofs.PriorityFlits.{withMore}
 use Rattle.model.specs.Links.{pairOf}
 use Rattle.model.specs.Latency.{methodUsed, methodNumber, latency}
 use Rattle.model.specs.Interference.{directFor, indirectFor, comesBefore, those}
@@ -22,7 +23,7 @@ use Rattle.model.specs.Delays.{allowance, weight, term, terms}
 use Rattle.model.specs.Verdicts.{verdictNumber, namedFlow, boundIn, roundsIn, packetsIn, highest, judged, judge, verdictBelow, verdict, answers}
 
 abbrev mesh : (columns rows link routing buffer method : ℕ) → Platform
-mesh columns rows link routing buffer method = record { columns = columns; rows = rows; link = link; routing = routing; buffer = buffer; method = method }
+mesh columns rows link routing buffer method = record { columns = columns; rows = rows; link = link; routing = routing; buffer = buffer; method = method; «priority_flits» = 0 }
 
 -- A line of six nodes with link cycles 1 and routing cycles 0, as in P.
 abbrev line : (buffer method : ℕ) → Platform
@@ -66,6 +67,12 @@ latencies :
     (latency (mesh 6 1 3 2 1 0) (flow 1 1 0 2 10 100 100 0) ≡ 45) × (latency (mesh 3 2 3 2 1 0) (flow 1 1 0 5 10 100 100 0) ≡ 50)
 unfolding latency hops along xy
 latencies = (refl, refl)
+
+-- "priority flits .., added to each flow's flits": the same with 5 of them, 3 x 5 more.
+latencies-more :
+    (latency (withMore 5 (mesh 6 1 3 2 1 0)) (flow 1 1 0 2 10 100 100 0) ≡ 60) × (latency (withMore 5 (mesh 3 2 3 2 1 0)) (flow 1 1 0 5 10 100 100 0) ≡ 65)
+unfolding latency hops along xy
+latencies-more = (refl, refl)
 
 -- Three columns and two rows: flow 1 goes 1, 2, 5, flow 2 goes 3, 4, 5, and flow 3 goes 0, 1, 2, 5.
 abbrev over-corners : List Flow
@@ -118,6 +125,8 @@ table =
     example (mesh 3 2 1 0 1 0) over-corners (Bounded 13 1 ∷ Bounded 26 2 ∷ Bounded 50 2 ∷ [])
     -- B is 18, below C of flow 1: 132 + 108 + 18
     ∷ example (mesh 6 1 3 0 2 3) buffers (Bounded 66 1 ∷ Bounded 174 2 ∷ Bounded 258 2 ∷ [])
+    -- with a priority flit C is 69, 111 and 135, and B 18 as before: 135 + 111 + 18
+    ∷ example (withMore 1 (mesh 6 1 3 0 2 3)) buffers (Bounded 69 1 ∷ Bounded 180 2 ∷ Bounded 264 2 ∷ [])
     -- B is 576, above it: 132 + 108 + 66
     ∷ example (mesh 6 1 3 0 64 3) buffers (Bounded 66 1 ∷ Bounded 174 2 ∷ Bounded 306 2 ∷ [])
     -- jitter: flow 1's brings a second packet and a second hit, up((70 + 60) / 100), so that flow 2 weighs 50 + 2 x 10; flow 2's brings a second

@@ -10,11 +10,12 @@ use Rattle.framing.specs.Put.{put}
 use Rattle.plan.specs.declared.Plan.{Plan}
 use Rattle.framing.specs.declared.returned.Outcome.{Outcome}
 use Rattle.framing.specs.declared.returned.Outcome.the-variants.{Accepted, Refused}
-use Rattle.plan_table.specs.Table.{tagOf}
+use Rattle.plan_table.specs.Table.{tagOf, sixOrSeven}
+use Rattle.plan_values.specs.Values.{priorityFlitsAt}
 use Rattle.plan_checks.specs.Checks.{headerAt, taggedAt, frameAt, clashAt, tailAt, restAt}
 use Rattle.plan.specs.Records.{fieldsFrom, _then_, bodyAt, recordAt}
 use Rattle.plan.specs.Reading.{accepted, refused, after, records, readPlan}
-use Rattle.plan.specs.PlanP.{P}
+use Rattle.plan.specs.PlanP.{P, withSeventh}
 use Rattle.mesh.specs.Mesh.{hops, along, xy}
 use Rattle.mesh.specs.Shared.{on, domain, first-from}
 use Rattle.recurrence.specs.Rounding.{up}
@@ -96,7 +97,24 @@ linesOf id (a ∷ rest) = cond (eqb (a .id) id) (a .verdict ∷ linesOf id rest)
 abbrev pub resultsIn : List ℕ → ℕ → List Verdict
 resultsIn bytes flow = linesOf flow (answered (readPlan bytes .outcome) (readPlan bytes .plan))
 
+-- Document 02, L7: P with a seventh byte. With 2 there C is 64, 206 and 134, and B is 30 as in P; with 1 and 8 it is 133 and 140 for flow 5.
+abbrev pub seventh-table : List Row
+seventh-table =
+    row (withSeventh 2) 2 (Bounded 64 1)  -- 62 + 2
+    ∷ row (withSeventh 2) 3 (Bounded 334 2)  -- 206 + 2 x 64
+    ∷ row (withSeventh 2) 5 (Bounded 400 2)  -- 134 + 206 + 2 x 30
+    ∷ row (method 1 (withSeventh 2)) 5 (Bounded 340 2)  -- 134 + 206
+    ∷ row (method 2 (withSeventh 2)) 5 (Bounded 468 2)  -- 134 + 206 + 2 x 64
+    ∷ row (method 0 (withSeventh 2)) 5 (Bounded 468 2)
+    ∷ row (withSeventh 1) 5 (Bounded 398 2)
+    ∷ row (withSeventh 8) 5 (Bounded 412 2)
+    ∷ []
+
 -- Each row's bytes are accepted, and its flow has one line in the answer, with the row's result.
 pub figures : map (λ r. resultsIn (r .bytes) (r .flow)) table ≡ map (λ r. r .result ∷ []) table
-unfolding tagOf headerAt taggedAt frameAt fieldsFrom clashAt tailAt restAt _then_ bodyAt recordAt accepted refused after records readPlan _when_else_ hops along xy on domain first-from up sumOver comesToFrom comesTo methodUsed latency directFor indirectFor comesBefore those allowance weight term terms highest judged judge verdictBelow verdict answers answered linesOf
+unfolding tagOf sixOrSeven priorityFlitsAt headerAt taggedAt frameAt fieldsFrom clashAt tailAt restAt _then_ bodyAt recordAt accepted refused after records readPlan _when_else_ hops along xy on domain first-from up sumOver comesToFrom comesTo methodUsed latency directFor indirectFor comesBefore those allowance weight term terms highest judged judge verdictBelow verdict answers answered linesOf
 figures = refl
+
+pub seventh-figures : map (λ r. resultsIn (r .bytes) (r .flow)) seventh-table ≡ map (λ r. r .result ∷ []) seventh-table
+unfolding tagOf sixOrSeven priorityFlitsAt headerAt taggedAt frameAt fieldsFrom clashAt tailAt restAt _then_ bodyAt recordAt accepted refused after records readPlan _when_else_ hops along xy on domain first-from up sumOver comesToFrom comesTo methodUsed latency directFor indirectFor comesBefore those allowance weight term terms highest judged judge verdictBelow verdict answers answered linesOf
+seventh-figures = refl

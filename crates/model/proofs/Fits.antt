@@ -31,17 +31,19 @@ use Rattle.framing.proofs.Tests.{and-left}
 
 -- ---- latencies and hits are small
 module _ {p : Platform} {f : Flow} (lp : LegalPlatform p) (l : LegalFlow p f) where
-  pub flits-few : flitsSent p f ≤ 65535
-  flits-few = l .flits .1
+  pub flits-few : flitsSent p f ≤ 65543
+  flits-few = omega (arith, l .flits .1, lp .«priority_flits» .1)
 
-  -- A latency is at most 16 x 65,550 + 16 x 15.
-  pub latency-small : latency p f ≤ 1_049_040
+  -- A latency is at most 16 x 65,558 + 16 x 15: its two parts.
+  pub link-part : p .link * (flitsSent p f + length (routeOf p f) - 1) ≤ 16 * 65558
+  link-part = mul-le-mul {n₂ = 16} {m₂ = 65558} (lp .link .1) (omega (arith, flits-few, route-most (ends lp l)))
+
+  pub routing-part : p .routing * (length (routeOf p f) - 1) ≤ 16 * 15
+  routing-part = mul-le-mul {n₂ = 16} {m₂ = 15} (lp .routing .1) (omega (arith, route-most (ends lp l)))
+
+  pub latency-small : latency p f ≤ 1_049_168
   unfolding latency
-  latency-small =
-      let n : length (routeOf p f) ≤ 16 = route-most (ends lp l) in
-      let a : p .link * (flitsSent p f + length (routeOf p f) - 1) ≤ 16 * 65550 = mul-le-mul {n₂ = 16} {m₂ = 65550} (lp .link .1) (omega (arith, flits-few)) in
-      let b : p .routing * (length (routeOf p f) - 1) ≤ 16 * 15 = mul-le-mul {n₂ = 16} {m₂ = 15} (lp .routing .1) (omega arith) in
-      omega arith
+  latency-small = omega (arith, link-part, routing-part)
 
   -- A latency is not 0: a flit passes a link.
   pub latency-some : 1 ≤ latency p f

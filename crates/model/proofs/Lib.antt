@@ -11,6 +11,7 @@ pub mod Ticks
 pub mod Direct
 pub mod PaperParts
 pub mod Paper
+pub mod PriorityFlits
 pub mod Figures
 mod Examples
 mod PaperTables

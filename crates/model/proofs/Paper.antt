@@ -25,7 +25,7 @@ use Rattle.model.specs.declared.Verdict.{Verdict}
 use Rattle.model.specs.declared.Verdict.the-variants.{Bounded, Late}
 use Rattle.model.specs.declared.Answer.{Answer}
 use Rattle.model.specs.Links.{routeOf}
-use Rattle.model.specs.Latency.{methodUsed, latency, limit}
+use Rattle.model.specs.Latency.{methodUsed, flitsSent, latency, limit}
 use Rattle.model.specs.Interference.{directFor, upstreamFor, downstreamFor, keep, those}
 use Rattle.model.specs.Delays.{hits, hitSum, buffered, allowance, weight, term, terms}
 use Rattle.model.specs.Verdicts.{boundIn, recurrenceOf, verdict, answers}
@@ -67,8 +67,9 @@ pub latency-is : {p : Platform} {f : Flow} → LegalPlatform p → LegalFlow p f
 unfolding C latency
 latency-is {p} {f} a w =
     let n = length (routeOf p f) in
-    let all : f .flits + n - 1 ≡ n + (f .flits - 1) = omega (arith, w .flits, route-within a w) in
-    rw all (omega (arith, mul-add (p .link) n (f .flits - 1), mul-comm n (p .link), mul-comm (f .flits - 1) (p .link), mul-comm (n - 1) (p .routing)))
+    let sent = flitsSent p f in
+    let all : sent + n - 1 ≡ n + (sent - 1) = omega (arith, w .flits, route-within a w) in
+    rw all (omega (arith, mul-add (p .link) n (sent - 1), mul-comm n (p .link), mul-comm (sent - 1) (p .link), mul-comm (n - 1) (p .routing)))
 
 hits-are : {p : Platform} {k : Flow} → LegalFlow p k → (x : ℕ) → hitsIn x k ≡ hits x k
 hits-are {k = k} w x = ceiling-is (x + k .jitter) (k .period) (omega (arith, w .period))

@@ -14,7 +14,7 @@ use Rattle.model.specs.PaperSets.{L, linkl, route, cd, C, order, first, 
 use Rattle.model.specs.PaperEquations.{hitsIn, bi₇, Iᴰ₁, I, Iᵘᵖ₄, Iᵈᵒʷⁿ₅, Iᵈᵒʷⁿ₈, Iᵈᵒʷⁿ₉}
 
 -- Tables I, III and V give C with L and |route|, for link cycles 1 and routing cycles 0: C is L + |route| - 1.
-pub tables-C : (p : Platform) (i : Flow) → linkl p ≡ 1 → p .routing ≡ 0 → 1 ≤ L i → C p i ≡ L i + length (route p i) - 1
+pub tables-C : (p : Platform) (i : Flow) → linkl p ≡ 1 → p .routing ≡ 0 → 1 ≤ L p i → C p i ≡ L p i + length (route p i) - 1
 unfolding C
 tables-C p i one none some = rw (one, none) (omega arith)
 

@@ -16,7 +16,7 @@ use Rattle.model.specs.PaperEquations.{⌈_÷_⌉, equationOf}
 
 -- A line of eight nodes, buffers of so many flits.
 abbrev line : ℕ → Platform
-line b = record { columns = 8; rows = 1; link = 1; routing = 0; buffer = b; method = 0 }
+line b = record { columns = 8; rows = 1; link = 1; routing = 0; buffer = b; method = 0; «priority_flits» = 0 }
 
 abbrev τ : (id P source destination L T : ℕ) → Flow
 τ id P source destination L T = record { id = id; priority = P; source = source; destination = destination; flits = L; period = T; deadline = T; jitter = 0 }

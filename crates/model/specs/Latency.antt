@@ -1,4 +1,4 @@
--- Document 01, "The plan's bytes" and "Routes and shared links", and document 02, L3: the method really used, the unloaded latency, and what a bound is held against.
+-- Document 01, "The plan's bytes" and "Routes and shared links", and document 02, L3 and L7: the method really used, the unloaded latency, and what a bound is held against.
 use Prim.Native.Nat.{ℕ, _+_, _-_, _*_}
 use lib.Dec.{eqb}
 use lib.ListN.{length}
@@ -27,9 +27,9 @@ methodNumber SB = 1
 methodNumber XLWX = 2
 methodNumber IBN = 3
 
--- The flits that the unloaded latency is worked out from.
+-- Document 02, L7: "priority flits .., added to each flow's flits wherever C is worked out"
 abbrev pub flitsSent : Platform → Flow → ℕ
-flitsSent p f = f .flits
+flitsSent p f = f .flits + p .«priority_flits»
 
 -- "Unloaded latency C = link cycles x (flits + length - 1) + routing cycles x (length - 1)."
 unfoldable pub latency : Platform → Flow → ℕ

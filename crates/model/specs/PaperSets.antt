@@ -20,8 +20,9 @@ T i = i .period
 abbrev pub J : Flow → ℕ
 J i = i .jitter
 
-abbrev pub L : Flow → ℕ
-L i = i .flits
+-- Difference: 002's packets have no flits for their priority; those of document 02, L7, are sent with each and so are part of it.
+abbrev pub L : Platform → Flow → ℕ
+L p i = i .flits + p .«priority_flits»
 
 -- "The amount of time taken by a router to transmit a flit over any of its links", linkl(Ξ), and "the virtual channel buffer size of any of them", buf(Ξ)
 abbrev pub linkl : Platform → ℕ
@@ -42,7 +43,7 @@ cd p i j = domain (route p i) (route p j)
 -- 01's has link and routing cycles. Section II: "As the header advances along the specified route", over each link and through each router between two,
 -- "the remaining flits follow in a pipelined way", one behind the other.
 unfoldable pub C : Platform → Flow → ℕ
-C p i = length (route p i) * linkl p + (length (route p i) - 1) * p .routing + (L i - 1) * linkl p
+C p i = length (route p i) * linkl p + (length (route p i) - 1) * p .routing + (L p i - 1) * linkl p
 
 -- "the order of a link λ_a over a route route_i (i.e. 1 for first, 2 for second, etc.)". Difference: document 01 counts places from 0.
 unfoldable pub order : ℕ → List ℕ → ℕ

@@ -6,6 +6,8 @@ use mathlib.Core.Path.{_≡_, refl, sym, ap, subst, _∙_}
 use mathlib.Core.List.{List, [], _∷_, _++_}
 use mathlib.Core.Logic.{_↔_, inl, inr}
 use lib.ListN.{length}
+use Rattle.framing_numbers.specs.Numbers.{twoAt}
+use Rattle.framing.specs.Header.{lengthAt}
 use Rattle.plan_values.specs.Values.{platformAt, flowAt, blankPlatform}
 use Rattle.plan.specs.Records.{recordAt}
 use Rattle.plan.specs.Reading.{accepted, refused, records, readPlan}
@@ -32,17 +34,17 @@ data Judged (s : List ℕ) : Reading → Type 0 where
 
 -- ---- in front of record n, which starts at `at`
 record Stands (s : List ℕ) (n : ℕ) (p : Platform) (fs : List Flow) (at : ℕ) : Type 0 where
-  here : at ≡ start n
+  here : at ≡ start s n
   seen : Seen s n p fs
   before : (m : ℕ) → m < n → Leads s m
 
-start-next : (n : ℕ) → 0 < n → start n + 23 ≡ start (suc n)
-start-next zero h = absurd (omega arith)
-start-next (suc k) h = omega arith
+start-next : (s : List ℕ) (n : ℕ) → 0 < n → start s n + 23 ≡ start s (suc n)
+start-next s zero h = absurd (omega arith)
+start-next s (suc k) h = omega arith
 
-start-flow : (n k : ℕ) → 0 < n → k + 1 ≡ n → start n ≡ place k
-start-flow zero k h e = absurd (omega arith)
-start-flow (suc m) k h e = omega arith
+start-flow : (s : List ℕ) (n k : ℕ) → 0 < n → k + 1 ≡ n → start s n ≡ place (twoAt s 1) k
+start-flow s zero k h e = absurd (omega arith)
+start-flow s (suc m) k h e = omega arith
 
 module _ {s : List ℕ} {n : ℕ} {p : Platform} {fs : List Flow} {at : ℕ} (w : Stands s n p fs at) where
   by-lines : {c : Checked} → recordAt s at p fs ≡ c → Ruled s n c order
@@ -63,11 +65,12 @@ module _ {s : List ℕ} {n : ℕ} {p : Platform} {fs : List Flow} {at : ℕ} (w 
   accepts-here : recordAt s at p fs ≡ Passed EndRecord → AcceptedBecause s
   accepts-here e = let (f, t) = faultless s n (by-lines e) in record { n = n; before = w .before; faultless = f; end = t }
 
-  platform-step : recordAt s at p fs ≡ Passed PlatformRecord → Stands s 1 (platformAt s at) fs (at + 9)
+  platform-step : recordAt s at p fs ≡ Passed PlatformRecord → Stands s 1 (platformAt s at) fs (at + 3 + lengthAt s at)
   platform-step e =
       let (f, t) = faultless s n (by-lines e) in
       let z : n ≡ 0 = go (ℕ-discrete n 0) f t in
-      let o : at ≡ 0 = w .here ∙ ap start z in
+      let o : at ≡ 0 = w .here ∙ ap (start s) z in
+      let told : lengthAt s at ≡ twoAt s 1 = ap (lengthAt s) o in
       record {
         here = omega arith;
         seen = record { platform = λ h. rw o; count = omega (arith, w .seen .count); each = w .seen .each };
@@ -84,11 +87,11 @@ module _ {s : List ℕ} {n : ℕ} {p : Platform} {fs : List Flow} {at : ℕ} (w 
       let h : 0 < n = go (ℕ-discrete n 0) f t in
       let c : length fs + 1 ≡ n = omega (arith, w .seen .count) in
       record {
-        here = omega (arith, w .here, start-next n h);
+        here = omega (arith, w .here, start-next s n h);
         seen = record {
           platform = λ x. w .seen .platform h;
           count = omega (arith, longer fs (flowAt s at));
-          each = each-more fs (flowAt s at) (λ k x. x ≡ flowAt s (place k)) (w .seen .each) (ap (flowAt s) (w .here ∙ start-flow n (length fs) h c));
+          each = each-more fs (flowAt s at) (λ k x. x ≡ flowAt s (place (twoAt s 1) k)) (w .seen .each) (ap (flowAt s) (w .here ∙ start-flow s n (length fs) h c));
         };
         before = before-more (record { faultless = f; no-end = λ x. omega arith });
       }
@@ -104,7 +107,7 @@ module _ (s : List ℕ) where
 
   by-record : (turns : ℕ) → Reads turns → (n : ℕ) (p : Platform) (fs : List Flow) (at : ℕ) → Stands s n p fs at → length s < at + suc turns → (c : Checked) → recordAt s at p fs ≡ c → Judged s (records (suc turns) s at p fs)
   by-record turns more n p fs at w h (Fault number pl) e = rw (fault-ends s at p fs turns e) (refuses number pl (refuses-here w e))
-  by-record turns more n p fs at w h (Passed PlatformRecord) e = rw (platform-leads s at p fs turns e) (more 1 (platformAt s at) fs (at + 9) (platform-step w e) (omega arith))
+  by-record turns more n p fs at w h (Passed PlatformRecord) e = rw (platform-leads s at p fs turns e) (more 1 (platformAt s at) fs (at + 3 + lengthAt s at) (platform-step w e) (omega arith))
   by-record turns more n p fs at w h (Passed FlowRecord) e = rw (flow-leads s at p fs turns e) (more (suc n) p (fs ++ flowAt s at ∷ []) (at + 23) (flow-step w e) (omega arith))
   by-record turns more n p fs at w h (Passed EndRecord) e = rw (end-accepts s at p fs turns e) (accepts p fs (accepts-here w e))
 

@@ -7,24 +7,25 @@ use Rattle.framing.specs.First.{_when_else_}
 use Rattle.framing.specs.Put.{put}
 use Rattle.framing.specs.BigEndian.{numberBytes}
 use Rattle.framing_numbers.specs.Numbers.{bytesOf}
-use Rattle.plan_table.specs.Table.{tagOf, platformFields, flowFields, width, lowestOf, highestOf}
+use Rattle.plan_table.specs.Table.{tagOf, sixOrSeven, platformFields, flowFields, width, lowestOf, highestOf}
 use Rattle.plan_table.specs.declared.Field.{Field}
 use Rattle.plan_table.specs.declared.Limit.{Limit}
 use Rattle.plan_table.specs.declared.Limit.the-variants.{UpTo, BelowNodes, UpToPeriod}
+use Rattle.plan_values.specs.Values.{priorityFlitsAt}
 use Rattle.plan_checks.specs.Checks.{headerAt, taggedAt, frameAt, clashAt, tailAt, restAt}
 use Rattle.plan.specs.Records.{fieldsFrom, _then_, bodyAt, recordAt}
 use Rattle.plan.specs.Reading.{accepted, refused, after, records, readPlan}
-use Rattle.plan.specs.PlanP.{P}
+use Rattle.plan.specs.PlanP.{P, withSeventh}
 use Rattle.framing.specs.declared.returned.Outcome.{Outcome}
 use Rattle.framing.specs.declared.returned.Outcome.the-variants.{Accepted, Refused}
 use Rattle.plan_checks.specs.declared.Limits.{Limits}
 
 -- P is accepted, with these values
-plan-P : readPlan P ≡ accepted (record { columns = 6; rows = 1; link = 1; routing = 0; buffer = 10; method = 3 })
+plan-P : readPlan P ≡ accepted (record { columns = 6; rows = 1; link = 1; routing = 0; buffer = 10; method = 3; «priority_flits» = 0 })
     (record { id = 2; priority = 1; source = 4; destination = 5; flits = 60; period = 200; deadline = 200; jitter = 0 }
     ∷ record { id = 3; priority = 2; source = 0; destination = 5; flits = 198; period = 4000; deadline = 4000; jitter = 0 }
     ∷ record { id = 5; priority = 3; source = 1; destination = 4; flits = 128; period = 6000; deadline = 6000; jitter = 0 } ∷ [])
-unfolding tagOf headerAt taggedAt frameAt fieldsFrom clashAt tailAt restAt _then_ bodyAt recordAt accepted after records readPlan _when_else_
+unfolding tagOf sixOrSeven priorityFlitsAt headerAt taggedAt frameAt fieldsFrom clashAt tailAt restAt _then_ bodyAt recordAt accepted after records readPlan _when_else_
 plan-P = refl
 
 -- P with bytes written over it from a place on
@@ -46,7 +47,7 @@ frames :
     ∷ take 80 P  -- under 3 bytes where the end record must start
     ∷ set P 0 0x03  -- an unknown tag, first
     ∷ set P 55 0x00  -- an unknown tag, later
-    ∷ set P 2 7  -- the platform's length
+    ∷ set P 2 5 ∷ set P 2 8  -- the platform's length
     ∷ set P 33 1  -- a flow's length
     ∷ set P 80 1  -- the end record's length
     ∷ drop 9 P  -- the first record is a flow
@@ -55,9 +56,9 @@ frames :
     ∷ [])
     ≡ Refused 1 0 ∷ Refused 1 0 ∷ Refused 1 0 ∷ Refused 1 9 ∷ Refused 1 32 ∷ Refused 1 78 ∷ Refused 1 78
     ∷ Refused 2 0 ∷ Refused 2 55
-    ∷ Refused 3 1 ∷ Refused 3 33 ∷ Refused 3 79
+    ∷ Refused 3 1 ∷ Refused 3 1 ∷ Refused 3 33 ∷ Refused 3 79
     ∷ Refused 4 0 ∷ Refused 4 0 ∷ Refused 4 9 ∷ []
-unfolding tagOf headerAt taggedAt frameAt fieldsFrom clashAt tailAt restAt _then_ bodyAt recordAt accepted refused after records readPlan _when_else_ outcomes
+unfolding tagOf sixOrSeven priorityFlitsAt headerAt taggedAt frameAt fieldsFrom clashAt tailAt restAt _then_ bodyAt recordAt accepted refused after records readPlan _when_else_ outcomes
 frames = refl
 
 -- 20 to 25, 30 to 38: each field below and above its values, in the platform and in the first flow
@@ -83,7 +84,7 @@ fields :
     ∷ Refused 24 7 ∷ Refused 24 7 ∷ Refused 25 8
     ∷ Refused 30 12 ∷ Refused 31 14 ∷ Refused 32 16 ∷ Refused 33 17 ∷ Refused 34 18
     ∷ Refused 35 20 ∷ Refused 35 20 ∷ Refused 36 24 ∷ Refused 38 24 ∷ Refused 37 28 ∷ []
-unfolding tagOf headerAt taggedAt frameAt fieldsFrom clashAt tailAt restAt _then_ bodyAt recordAt accepted refused after records readPlan _when_else_ outcomes bytes
+unfolding tagOf sixOrSeven priorityFlitsAt headerAt taggedAt frameAt fieldsFrom clashAt tailAt restAt _then_ bodyAt recordAt accepted refused after records readPlan _when_else_ outcomes bytes
 fields = refl
 
 -- the same in the last flow, 46 bytes on
@@ -100,7 +101,7 @@ last-flow :
     ∷ bytes 74 (0x3B ∷ 0x9A ∷ 0xCA ∷ 0x01 ∷ [])  -- jitter
     ∷ [])
     ≡ Refused 30 58 ∷ Refused 31 60 ∷ Refused 32 62 ∷ Refused 33 63 ∷ Refused 34 64 ∷ Refused 35 66 ∷ Refused 36 70 ∷ Refused 38 70 ∷ Refused 37 74 ∷ []
-unfolding tagOf headerAt taggedAt frameAt fieldsFrom clashAt tailAt restAt _then_ bodyAt recordAt accepted refused after records readPlan _when_else_ outcomes bytes
+unfolding tagOf sixOrSeven priorityFlitsAt headerAt taggedAt frameAt fieldsFrom clashAt tailAt restAt _then_ bodyAt recordAt accepted refused after records readPlan _when_else_ outcomes bytes
 last-flow = refl
 
 -- the highest allowed value of a field
@@ -116,9 +117,9 @@ edgesFrom s l at (f ∷ rest) =
     put s at (numberBytes (width f) (lowestOf f)) ∷ put s at (numberBytes (width f) (highest l (highestOf f)))
     ∷ edgesFrom s l (at + bytesOf (width f)) rest
 
--- P without flows, and with its last flow alone, whose deadline is 1 so that every period holds it
+-- P with a seventh byte and without flows, and with its last flow alone, whose deadline is 1 so that every period holds it
 no-flows : List ℕ
-no-flows = take 9 P ++ drop 78 P
+no-flows = take 10 (withSeventh 1) ++ drop 78 P
 
 lone-flow : List ℕ
 lone-flow = put (take 9 P ++ drop 55 P) 24 (0 ∷ 0 ∷ 0 ∷ 1 ∷ [])
@@ -127,8 +128,8 @@ lone-flow = put (take 9 P ++ drop 55 P) 24 (0 ∷ 0 ∷ 0 ∷ 1 ∷ [])
 -- "A deadline below the unloaded latency is legal, and so is a jitter above the period."
 edges :
     outcomes (edgesFrom no-flows (record { nodes = 6; period = 0 }) 3 platformFields ++ edgesFrom lone-flow (record { nodes = 6; period = 6000 }) 12 flowFields)
-    ≡ replicate 28 Accepted
-unfolding tagOf headerAt taggedAt frameAt fieldsFrom clashAt tailAt restAt _then_ bodyAt recordAt accepted refused after records readPlan _when_else_ outcomes highest edgesFrom no-flows lone-flow
+    ≡ replicate 30 Accepted
+unfolding tagOf sixOrSeven priorityFlitsAt headerAt taggedAt frameAt fieldsFrom clashAt tailAt restAt _then_ bodyAt recordAt accepted refused after records readPlan _when_else_ outcomes highest edgesFrom no-flows lone-flow
 edges = refl
 
 -- 7, 8, 9, 10
@@ -142,5 +143,5 @@ clashes :
     ∷ (take 9 P ++ drop 78 P ++ P)  -- the same without flows
     ∷ [])
     ≡ Refused 7 35 ∷ Refused 8 60 ∷ Refused 9 17 ∷ Refused 9 63 ∷ Refused 10 81 ∷ Refused 10 12 ∷ []
-unfolding tagOf headerAt taggedAt frameAt fieldsFrom clashAt tailAt restAt _then_ bodyAt recordAt accepted refused after records readPlan _when_else_ outcomes
+unfolding tagOf sixOrSeven priorityFlitsAt headerAt taggedAt frameAt fieldsFrom clashAt tailAt restAt _then_ bodyAt recordAt accepted refused after records readPlan _when_else_ outcomes
 clashes = refl

@@ -8,12 +8,12 @@ use lib.Dec.{ltb}
 use borrow.Author.Tests.{ltb-false, leb-false, le-ltb, lt-leb}
 use Rattle.framing_numbers.specs.Numbers.{bytesOf, numberAt}
 use Rattle.framing.specs.First.{_when_else_}
-use Rattle.plan_table.specs.Table.{platformFields, flowFields, width, lowestOf, highestOf}
-use Rattle.plan_values.specs.Values.{platformAt, flowAt}
+use Rattle.plan_table.specs.Table.{flowFields, width, lowestOf, highestOf}
+use Rattle.plan_values.specs.Values.{flowAt}
 use Rattle.plan_checks.specs.Checks.{limitsAt}
 use Rattle.plan_checks.specs.Checks.{above}
 use Rattle.plan.specs.Records.{fieldsFrom}
-use Rattle.plan.specs.Legal.{LegalPlatform, LegalFlow}
+use Rattle.plan.specs.Legal.{LegalFlow}
 use Rattle.plan_values.specs.declared.Platform.{Platform}
 use Rattle.plan_checks.specs.declared.Checked.the-variants.{Passed}
 use Rattle.plan_table.specs.declared.Field.{Field}
@@ -67,14 +67,8 @@ module _ (s : List ℕ) (at : ℕ) (kind : Kind) (l : Limits) where
       let v = numberAt s (width f) (at + offset) in
       rw (le-ltb v (lowestOf f) (w .0), below-not l (highestOf f) v (w .1)) (allowed-passed (offset + bytesOf (width f)) fs ws)
 
--- the two tables, line by line
+-- the flow's table, line by line
 module _ (s : List ℕ) (at : ℕ) where
-  pub platform-legal : (l : Limits) → Allowed s at l 3 platformFields → LegalPlatform (platformAt s at)
-  platform-legal l (a, (b, (c, (d, (e, (f, w)))))) = record { columns = a; rows = b; link = c; routing = d; buffer = e; method = f }
-
-  pub legal-platform : (l : Limits) → LegalPlatform (platformAt s at) → Allowed s at l 3 platformFields
-  legal-platform l w = (w .columns, (w .rows, (w .link, (w .routing, (w .buffer, (w .method, tt))))))
-
   pub flow-legal : (p : Platform) → Allowed s at (limitsAt s at FlowRecord p) 3 flowFields → (flowAt s at .source ≡ flowAt s at .destination → ⊥) → LegalFlow p (flowAt s at)
   flow-legal p (a, (b, (c, (d, (e, (f, (g, (h, w)))))))) m = record { id = a; priority = b; source = c .1; destination = d .1; flits = e; period = f; deadline = g; jitter = h; moves = m }
 

@@ -1,7 +1,7 @@
 -- Records in their places, with the table's tag and length and their bodies there: a frame without fault, the end, a 65th flow.
 use Prim.Native.Nat.{ℕ, _+_, _-_, _≤_}
 use native.Mathlib.Omega.{arith}
-use mathlib.Core.Path.{_≡_, refl, _∙_}
+use mathlib.Core.Path.{_≡_, refl, sym, ap, _∙_}
 use mathlib.Core.Bool.{false}
 use mathlib.Core.List.{List, []}
 use lib.ListN.{length}
@@ -22,11 +22,11 @@ use Rattle.plan_table.proofs.Tags.{tag-known}
 use Rattle.plan.proofs.Order.{record-frame, record-rest}
 use Rattle.plan.proofs.Fields.{allowed-passed}
 
-module _ (s : List ℕ) (at : ℕ) (kind : Kind) (count : ℕ) where
-  pub frame-passes : Headed s at (tagByte kind) (bodyLength kind) → misplaced (eqb at 0) kind ≡ false → at + 3 + bodyLength kind ≤ length s → noRoom kind count ≡ false → frameAt s at count ≡ Passed kind
+module _ (s : List ℕ) (at : ℕ) (kind : Kind) (size count : ℕ) (own : size ≡ bodyLength kind size) where
+  pub frame-passes : Headed s at (tagByte kind) size → misplaced (eqb at 0) kind ≡ false → at + 3 + size ≤ length s → noRoom kind count ≡ false → frameAt s at count ≡ Passed kind
   unfolding frameAt taggedAt headerAt _when_else_
   frame-passes h m w r =
-      rw (le-ltb (length s - at) 3 (omega arith), h .tag-is, tag-known kind, m, eq-eqb (lengthAt s at) (bodyLength kind) (h .size-is), le-ltb (length s - (at + 3)) (lengthAt s at) (omega (arith, h .size-is)), r)
+      rw (le-ltb (length s - at) 3 (omega arith), h .tag-is, tag-known kind, m, eq-eqb (lengthAt s at) (bodyLength kind (lengthAt s at)) (h .size-is ∙ own ∙ ap (bodyLength kind) (sym (h .size-is))), le-ltb (length s - (at + 3)) (lengthAt s at) (omega (arith, h .size-is)), r)
 
 -- behind the platform
 module _ (s : List ℕ) (at : ℕ) (later : at ≡ 0 → ⊥) (p : Platform) (fs : List Flow) where
@@ -34,7 +34,7 @@ module _ (s : List ℕ) (at : ℕ) (later : at ≡ 0 → ⊥) (p : Platform) (fs
   unfolding restAt tailAt _when_else_
   end-passes h e =
       record-rest s at p fs
-      (frame-passes s at EndRecord (length fs) h (rw (ne-eqb at 0 later)) (omega arith) refl)
+      (frame-passes s at EndRecord 0 (length fs) refl h (rw (ne-eqb at 0 later)) (omega arith) refl)
       (allowed-passed s at EndRecord (limitsAt s at EndRecord p) 3 [] tt)
       ∙ rw (le-ltb (at + 3) (length s) (omega arith))
 

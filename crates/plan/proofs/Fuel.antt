@@ -6,6 +6,7 @@ use mathlib.Core.List.{List, [], _∷_, _++_}
 use lib.ListN.{length}
 use borrow.Author.Tests.{lt-ltb}
 use Rattle.framing.specs.First.{_when_else_}
+use Rattle.framing.specs.Header.{lengthAt}
 use Rattle.plan_values.specs.Values.{platformAt, flowAt, blankPlatform}
 use Rattle.plan_checks.specs.Checks.{frameAt}
 use Rattle.plan.specs.Records.{recordAt}
@@ -24,7 +25,7 @@ unfolding records
 one-more s zero at p fs h = fault-ends s at p fs 0 (record-frame s at p fs (cut s at (length fs) (omega arith)))
 one-more s (suc turns) at p fs h =
     ap₂ (after (recordAt s at p fs) (accepted p fs))
-    (one-more s turns (at + 9) (platformAt s at) fs (omega arith))
+    (one-more s turns (at + 3 + lengthAt s at) (platformAt s at) fs (omega arith))
     (one-more s turns (at + 23) p (fs ++ flowAt s at ∷ []) (omega arith))
 
 pub turns-enough : (s : List ℕ) (more : ℕ) → records (more + suc (length s)) s 0 blankPlatform [] ≡ readPlan s

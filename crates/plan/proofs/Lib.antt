@@ -4,6 +4,7 @@ pub mod Order
 pub mod Scan
 mod Turns
 mod Fields
+pub mod Platforms
 mod Growth
 mod Listed
 pub mod Numbered
@@ -21,3 +22,4 @@ pub mod Because
 mod Examples
 mod Neighbours
 mod Apart
+mod Sevenths

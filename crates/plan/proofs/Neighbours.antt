@@ -7,8 +7,8 @@ use mathlib.Core.Logic.{inl}
 use lib.ListN.{take, drop, set, replicate}
 use Rattle.framing.specs.First.{_when_else_}
 use Rattle.framing.specs.Put.{put}
-use Rattle.plan_table.specs.Table.{tagOf}
-use Rattle.plan_values.specs.Values.{blankFlow}
+use Rattle.plan_table.specs.Table.{tagOf, sixOrSeven}
+use Rattle.plan_values.specs.Values.{priorityFlitsAt, blankFlow}
 use Rattle.plan_checks.specs.Checks.{headerAt, taggedAt, frameAt, clashAt, tailAt, restAt}
 use Rattle.plan.specs.Records.{fieldsFrom, _then_, bodyAt, recordAt}
 use Rattle.plan.specs.Reading.{accepted, refused, after, records, readPlan}
@@ -31,7 +31,7 @@ cut-headers :
     ∷ [])
     ≡ Refused 1 0 ∷ Refused 1 0 ∷ Refused 1 9 ∷ Refused 1 9 ∷ Refused 1 55 ∷ Refused 1 55 ∷ Refused 1 78 ∷ Refused 1 78
     ∷ Refused 1 0 ∷ Refused 1 0 ∷ Refused 1 9 ∷ []
-unfolding tagOf headerAt taggedAt frameAt fieldsFrom clashAt tailAt restAt _then_ bodyAt recordAt accepted refused after records readPlan _when_else_ outcomes bytes
+unfolding tagOf sixOrSeven priorityFlitsAt headerAt taggedAt frameAt fieldsFrom clashAt tailAt restAt _then_ bodyAt recordAt accepted refused after records readPlan _when_else_ outcomes bytes
 cut-headers = refl
 
 -- .. said without the reader: of one byte 03 three lines hold, the first of them is the reason, and 2 is none
@@ -50,8 +50,8 @@ frames :
     (set (drop 9 P) 0 0x03  -- 2 before 4
     ∷ set (set P 9 0x03) 11 0  -- 2 before any length
     ∷ set (drop 9 P) 1 1  -- 4 before 3, first
-    ∷ (take 9 P ++ 0x01 ∷ 0x00 ∷ 0x07 ∷ [])  -- 4 before 3, later
-    ∷ set (take 8 P) 2 7  -- 3 before 1, in the platform
+    ∷ (take 9 P ++ 0x01 ∷ 0x00 ∷ 0x08 ∷ [])  -- 4 before 3, later
+    ∷ set (take 8 P) 2 8  -- 3 before 1, in the platform
     ∷ set (take 31 P) 11 21  -- 3 before 1, in a flow
     ∷ set P 80 1  -- 3 before 1, in the end record
     ∷ set (P ++ 0x00 ∷ []) 80 1  -- 3 before 10
@@ -59,7 +59,7 @@ frames :
     ∷ put (take 31 P) 12 (0xFF ∷ 0xFF ∷ [])  -- 1 before 30
     ∷ [])
     ≡ Refused 2 0 ∷ Refused 2 9 ∷ Refused 4 0 ∷ Refused 4 9 ∷ Refused 3 1 ∷ Refused 3 10 ∷ Refused 3 79 ∷ Refused 3 79 ∷ Refused 1 0 ∷ Refused 1 9 ∷ []
-unfolding tagOf headerAt taggedAt frameAt fieldsFrom clashAt tailAt restAt _then_ bodyAt recordAt accepted refused after records readPlan _when_else_ outcomes bytes
+unfolding tagOf sixOrSeven priorityFlitsAt headerAt taggedAt frameAt fieldsFrom clashAt tailAt restAt _then_ bodyAt recordAt accepted refused after records readPlan _when_else_ outcomes bytes
 frames = refl
 
 -- "field by field", of the platform
@@ -73,7 +73,7 @@ platform-fields :
     ∷ set (set P 7 65) 3 0  -- 20 before 24
     ∷ [])
     ≡ Refused 20 3 ∷ Refused 21 4 ∷ Refused 22 5 ∷ Refused 23 6 ∷ Refused 24 7 ∷ Refused 20 3 ∷ []
-unfolding tagOf headerAt taggedAt frameAt fieldsFrom clashAt tailAt restAt _then_ bodyAt recordAt accepted refused after records readPlan _when_else_ outcomes bytes
+unfolding tagOf sixOrSeven priorityFlitsAt headerAt taggedAt frameAt fieldsFrom clashAt tailAt restAt _then_ bodyAt recordAt accepted refused after records readPlan _when_else_ outcomes bytes
 platform-fields = refl
 
 -- "field by field, 9, 7, 8", of a flow; a deadline is not zero and above its period at once
@@ -94,7 +94,7 @@ flow-fields :
     ∷ [])
     ≡ Refused 30 12 ∷ Refused 31 14 ∷ Refused 32 16 ∷ Refused 33 17 ∷ Refused 34 18 ∷ Refused 35 20 ∷ Refused 35 20
     ∷ Refused 36 24 ∷ Refused 38 24 ∷ Refused 37 28 ∷ Refused 9 40 ∷ Refused 7 35 ∷ []
-unfolding tagOf headerAt taggedAt frameAt fieldsFrom clashAt tailAt restAt _then_ bodyAt recordAt accepted refused after records readPlan _when_else_ outcomes bytes
+unfolding tagOf sixOrSeven priorityFlitsAt headerAt taggedAt frameAt fieldsFrom clashAt tailAt restAt _then_ bodyAt recordAt accepted refused after records readPlan _when_else_ outcomes bytes
 flow-fields = refl
 
 -- "The first record in fault decides": the last line of one record before the first of the next
@@ -108,12 +108,12 @@ two-records :
     ∷ set (P ++ 0x00 ∷ []) 63 1  -- 9 of a flow before 10
     ∷ [])
     ≡ Refused 25 8 ∷ Refused 25 8 ∷ Refused 24 7 ∷ Refused 8 37 ∷ Refused 8 37 ∷ Refused 9 63 ∷ []
-unfolding tagOf headerAt taggedAt frameAt fieldsFrom clashAt tailAt restAt _then_ bodyAt recordAt accepted refused after records readPlan _when_else_ outcomes bytes
+unfolding tagOf sixOrSeven priorityFlitsAt headerAt taggedAt frameAt fieldsFrom clashAt tailAt restAt _then_ bodyAt recordAt accepted refused after records readPlan _when_else_ outcomes bytes
 two-records = refl
 
 -- "body complete (1), 6, then 5": the flow record of P behind 64 flows
 behind-64 : List ℕ → Checked
-behind-64 s = recordAt s 9 (record { columns = 6; rows = 1; link = 1; routing = 0; buffer = 10; method = 3 }) (replicate 64 blankFlow)
+behind-64 s = recordAt s 9 (record { columns = 6; rows = 1; link = 1; routing = 0; buffer = 10; method = 3; «priority_flits» = 0 }) (replicate 64 blankFlow)
 
 sixth :
     map behind-64
@@ -124,5 +124,5 @@ sixth :
     ∷ set (take 32 P) 16 6  -- 6 before 32
     ∷ [])
     ≡ Fault 6 9 ∷ Fault 3 10 ∷ Fault 1 9 ∷ Fault 6 9 ∷ Fault 6 9 ∷ []
-unfolding tagOf headerAt taggedAt frameAt fieldsFrom clashAt tailAt restAt _then_ bodyAt recordAt accepted refused after records readPlan _when_else_ behind-64
+unfolding tagOf sixOrSeven priorityFlitsAt headerAt taggedAt frameAt fieldsFrom clashAt tailAt restAt _then_ bodyAt recordAt accepted refused after records readPlan _when_else_ behind-64
 sixth = refl

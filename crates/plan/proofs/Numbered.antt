@@ -26,12 +26,12 @@ of-records : Numbers recordRefusals
 of-records = (refl, (refl, (refl, (refl, tt))))
 
 of-platforms : Numbers platformRefusals
-of-platforms = (refl, (refl, (refl, (refl, (refl, (refl, tt))))))
+of-platforms = (refl, (refl, (refl, (refl, (refl, (refl, (refl, tt)))))))
 
 of-flows : Numbers flowRefusals
 of-flows = (refl, (refl, (refl, (refl, (refl, (refl, (refl, (refl, (refl, (refl, (refl, (refl, tt))))))))))))
 
-pub listed-number : {number pl : ℕ} → Listed number pl → isNumber number ≡ true
+pub listed-number : {size number pl : ℕ} → Listed size number pl → isNumber number ≡ true
 listed-number (of-first number offset m) = line-number recordRefusals number offset of-records m
 listed-number (of-later k number offset few m) = line-number recordRefusals number offset of-records m
 listed-number (of-platform number offset m) = line-number platformRefusals number offset of-platforms m
@@ -39,5 +39,5 @@ listed-number (of-flow k number offset few m) = line-number flowRefusals number 
 listed-number of-flow-65 = refl
 listed-number (of-end k number offset few m) = line-number endRefusals number offset (refl, tt) m
 
-pub never : (n : ℕ) → isNumber n ≡ false → {number pl : ℕ} → Listed number pl → number ≢ n
+pub never : (n : ℕ) → isNumber n ≡ false → {size number pl : ℕ} → Listed size number pl → number ≢ n
 never n f l e = false≢true (sym f ∙ ap isNumber (sym e) ∙ listed-number l)

@@ -41,8 +41,8 @@ then-passed (Passed k) next e = ((k, refl), e)
 pub record Framed (s : List ℕ) (at : ℕ) (kind : Kind) (count : ℕ) : Type 0 where
   pub tag : tagOf (tagAt s at) ≡ Known kind
   pub place : misplaced (eqb at 0) kind ≡ false
-  pub size : lengthAt s at ≡ bodyLength kind
-  pub whole : at + 3 + bodyLength kind ≤ length s
+  pub size : lengthAt s at ≡ bodyLength kind (lengthAt s at)
+  pub whole : at + 3 + bodyLength kind (lengthAt s at) ≤ length s
   pub room : noRoom kind count ≡ false
 
 module _ (s : List ℕ) (at count : ℕ) {kind : Kind} where
@@ -55,7 +55,7 @@ module _ (s : List ℕ) (at count : ℕ) {kind : Kind} where
       let b = passed _ _ _ _ (l .1) in
       let r = passed _ _ _ _ (b .1) in
       let k : found ≡ kind = cc (r .1) in
-      let d = eqb-true (lengthAt s at) (bodyLength found) (not-false _ (l .0)) in
+      let d = eqb-true (lengthAt s at) (bodyLength found (lengthAt s at)) (not-false _ (l .0)) in
       let w = ltb-false (length s - (at + 3)) (lengthAt s at) (b .0) in
       rw (← k) (record { tag = te; place = m .0; size = d; whole = omega arith; room = r .0 })
 
@@ -131,7 +131,7 @@ module _ (s : List ℕ) (at : ℕ) (p : Platform) (fs : List Flow) where
     unfolding records after
     fault-ends e = rw e
 
-    pub platform-leads : recordAt s at p fs ≡ Passed PlatformRecord → records (suc turns) s at p fs ≡ records turns s (at + 9) (platformAt s at) fs
+    pub platform-leads : recordAt s at p fs ≡ Passed PlatformRecord → records (suc turns) s at p fs ≡ records turns s (at + 3 + lengthAt s at) (platformAt s at) fs
     unfolding records after
     platform-leads e = rw e
 

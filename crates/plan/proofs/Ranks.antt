@@ -6,7 +6,7 @@ use mathlib.Core.Path.{_≡_, refl, sym, ap, subst, _∙_}
 use mathlib.Core.List.{List, [], _∷_}
 use mathlib.Core.Logic.{inr}
 use lib.ListN.{length, getD}
-use Rattle.plan.specs.Reasons.{start, Line, header-cut, unknown-tag, misplaced, wrong-length, body-cut, flow-65, columns-outside, rows-outside, link-outside, routing-outside, buffer-outside, method-outside, id-outside, priority-outside, source-outside, destination-outside, flits-outside, period-outside, deadline-zero, deadline-above, jitter-outside, source-equals-destination, id-equals-earlier, priority-equals-earlier, byte-after-end, rank, numberOf, offsetOf, Holds, RefusedBecause, AcceptedBecause}
+use Rattle.plan.specs.Reasons.{start, Line, header-cut, unknown-tag, misplaced, wrong-length, body-cut, flow-65, columns-outside, rows-outside, link-outside, routing-outside, buffer-outside, method-outside, priority-flits-outside, id-outside, priority-outside, source-outside, destination-outside, flits-outside, period-outside, deadline-zero, deadline-above, jitter-outside, source-equals-destination, id-equals-earlier, priority-equals-earlier, byte-after-end, rank, numberOf, offsetOf, Holds, RefusedBecause, AcceptedBecause}
 
 -- ---- the lines in their order
 abbrev pub flow-rests : List Line
@@ -16,7 +16,7 @@ abbrev pub flow-fields : List Line
 flow-fields = id-outside ∷ priority-outside ∷ source-outside ∷ destination-outside ∷ flits-outside ∷ period-outside ∷ deadline-zero ∷ deadline-above ∷ jitter-outside ∷ flow-rests
 
 abbrev pub platform-fields : List Line
-platform-fields = columns-outside ∷ rows-outside ∷ link-outside ∷ routing-outside ∷ buffer-outside ∷ method-outside ∷ flow-fields
+platform-fields = columns-outside ∷ rows-outside ∷ link-outside ∷ routing-outside ∷ buffer-outside ∷ method-outside ∷ priority-flits-outside ∷ flow-fields
 
 abbrev pub of-header : List Line
 of-header = misplaced ∷ wrong-length ∷ body-cut ∷ flow-65 ∷ platform-fields
@@ -41,6 +41,7 @@ ranked-is link-outside = refl
 ranked-is routing-outside = refl
 ranked-is buffer-outside = refl
 ranked-is method-outside = refl
+ranked-is priority-flits-outside = refl
 ranked-is id-outside = refl
 ranked-is priority-outside = refl
 ranked-is source-outside = refl
@@ -64,18 +65,18 @@ past (l ∷ ls) (suc i) h = past ls i (omega arith)
 pub same-rank : (l m : Line) → rank l ≡ rank m → l ≡ m
 same-rank l m e = sym (ranked-is l) ∙ ap ranked e ∙ ranked-is m
 
-pub rank-small : (l : Line) → 25 ≤ rank l → ⊥
+pub rank-small : (l : Line) → 26 ≤ rank l → ⊥
 rank-small l h =
     let z : rank l ≡ 0 = ap rank (sym (ranked-is l) ∙ past order (rank l) h) in
     omega arith
 
 -- the lines from this rank on
 abbrev pub From : ℕ → List Line → Type 0
-From r [] = r ≡ 25
+From r [] = r ≡ 26
 From r (l ∷ ls) = (rank l ≡ r) × From (suc r) ls
 
 pub all-ranks : From 0 order
-all-ranks = (refl, (refl, (refl, (refl, (refl, (refl, (refl, (refl, (refl, (refl, (refl, (refl, (refl, (refl, (refl, (refl, (refl, (refl, (refl, (refl, (refl, (refl, (refl, (refl, (refl, refl)))))))))))))))))))))))))
+all-ranks = (refl, (refl, (refl, (refl, (refl, (refl, (refl, (refl, (refl, (refl, (refl, (refl, (refl, (refl, (refl, (refl, (refl, (refl, (refl, (refl, (refl, (refl, (refl, (refl, (refl, (refl, refl))))))))))))))))))))))))))
 
 -- ---- one reason at most
 module _ (s : List ℕ) where
@@ -91,7 +92,7 @@ module _ (s : List ℕ) where
       let e : w .n ≡ v .n = omega (arith, not-earlier w v, not-earlier v w) in
       let r : rank (w .line) ≡ rank (v .line) = omega (arith, not-sooner w v e, not-sooner v w (sym e)) in
       let l = same-rank (w .line) (v .line) r in
-      (w .number-is ∙ ap numberOf l ∙ sym (v .number-is), w .place-is ∙ (λ i. start (e i) + offsetOf (l i)) ∙ sym (v .place-is))
+      (w .number-is ∙ ap numberOf l ∙ sym (v .number-is), w .place-is ∙ (λ i. start s (e i) + offsetOf (l i)) ∙ sym (v .place-is))
 
   -- "then 0 to 64 flows": a record in fault has the platform and at most 64 flows before it
   pub few-before : {a b : ℕ} (w : RefusedBecause s a b) → w .n ≤ 65

@@ -41,20 +41,20 @@ module _ (lowest highest v : ℕ) where
 -- ---- what a check says, against the lines that are left
 module _ (s : List ℕ) (n : ℕ) where
   pub data Ruled : Checked → List Line → Type 0 where
-    stops : (l : Line) {ls : List Line} {number pl : ℕ} → Holds s n l → number ≡ numberOf l → pl ≡ start n + offsetOf l → Ruled (Fault number pl) (l ∷ ls)
+    stops : (l : Line) {ls : List Line} {number pl : ℕ} → Holds s n l → number ≡ numberOf l → pl ≡ start s n + offsetOf l → Ruled (Fault number pl) (l ∷ ls)
     passes : (l : Line) {ls : List Line} {c : Checked} → (Holds s n l → ⊥) → Ruled c ls → Ruled c (l ∷ ls)
     ends : (kind : Kind) → tag s n ≡ tagByte kind → Ruled (Passed kind) []
 
 module _ {s : List ℕ} {n : ℕ} where
   -- a check whose faults are the whole's
   module _ (whole : Checked → Checked) (keeps : (number pl : ℕ) → whole (Fault number pl) ≡ Fault number pl) where
-    pub step : (l : Line) {ls : List Line} (test : Bool) {number pl : ℕ} {next : Checked} → (test ≡ true → Holds s n l) → (test ≡ false → Holds s n l → ⊥) → number ≡ numberOf l → pl ≡ start n + offsetOf l → (test ≡ false → Ruled s n (whole next) ls) → Ruled s n (whole (Fault number pl when test else next)) (l ∷ ls)
+    pub step : (l : Line) {ls : List Line} (test : Bool) {number pl : ℕ} {next : Checked} → (test ≡ true → Holds s n l) → (test ≡ false → Holds s n l → ⊥) → number ≡ numberOf l → pl ≡ start s n + offsetOf l → (test ≡ false → Ruled s n (whole next) ls) → Ruled s n (whole (Fault number pl when test else next)) (l ∷ ls)
     unfolding _when_else_
     step l true t f a b more = rw (keeps _ _) (stops l (t refl) a b)
     step l false t f a b more = passes l (f refl) (more refl)
 
     -- a field with a lowest and a highest value
-    pub field : (l : Line) {ls : List Line} (lowest highest v : ℕ) {number pl : ℕ} {next : Checked} → (Outside lowest highest v → Holds s n l) → (Holds s n l → Outside lowest highest v) → number ≡ numberOf l → pl ≡ start n + offsetOf l → Ruled s n (whole next) ls → Ruled s n (whole (Fault (number when ltb v lowest else number) pl when (ltb v lowest || ltb highest v) else next)) (l ∷ ls)
+    pub field : (l : Line) {ls : List Line} (lowest highest v : ℕ) {number pl : ℕ} {next : Checked} → (Outside lowest highest v → Holds s n l) → (Holds s n l → Outside lowest highest v) → number ≡ numberOf l → pl ≡ start s n + offsetOf l → Ruled s n (whole next) ls → Ruled s n (whole (Fault (number when ltb v lowest else number) pl when (ltb v lowest || ltb highest v) else next)) (l ∷ ls)
     field l lowest highest v {number} t f a b more =
         step l (ltb v lowest || ltb highest v)
         (λ e. t (outside-true lowest highest v e))
@@ -62,7 +62,7 @@ module _ {s : List ℕ} {n : ℕ} where
         (same (ltb v lowest) number ∙ a) b (λ e. more)
 
     -- a field below the count of nodes
-    pub node : (l : Line) {ls : List Line} (many v : ℕ) {number pl : ℕ} {next : Checked} → (many ≤ v → Holds s n l) → (Holds s n l → many ≤ v) → number ≡ numberOf l → pl ≡ start n + offsetOf l → Ruled s n (whole next) ls → Ruled s n (whole (Fault (number when ltb v 0 else number) pl when (ltb v 0 || leb many v) else next)) (l ∷ ls)
+    pub node : (l : Line) {ls : List Line} (many v : ℕ) {number pl : ℕ} {next : Checked} → (many ≤ v → Holds s n l) → (Holds s n l → many ≤ v) → number ≡ numberOf l → pl ≡ start s n + offsetOf l → Ruled s n (whole next) ls → Ruled s n (whole (Fault (number when ltb v 0 else number) pl when (ltb v 0 || leb many v) else next)) (l ∷ ls)
     node l many v {number} t f a b more =
         step l (ltb v 0 || leb many v)
         (λ e. by-bool (ltb v 0) (λ z. absurd (omega (arith, ltb-true v 0 z))) (λ z. t (leb-true many v (either _ _ e z))))
@@ -70,7 +70,7 @@ module _ {s : List ℕ} {n : ℕ} where
         (same (ltb v 0) number ∙ a) b (λ e. more)
 
     -- a field with a line for a value below the lowest, and a line for one above the highest
-    pub both : (l m : Line) {ls : List Line} (low high : Bool) {number other pl : ℕ} {next : Checked} → (low ≡ true → Holds s n l) → (low ≡ false → Holds s n l → ⊥) → (high ≡ true → Holds s n m) → (high ≡ false → Holds s n m → ⊥) → number ≡ numberOf l → other ≡ numberOf m → pl ≡ start n + offsetOf l → pl ≡ start n + offsetOf m → Ruled s n (whole next) ls → Ruled s n (whole (Fault (number when low else other) pl when (low || high) else next)) (l ∷ m ∷ ls)
+    pub both : (l m : Line) {ls : List Line} (low high : Bool) {number other pl : ℕ} {next : Checked} → (low ≡ true → Holds s n l) → (low ≡ false → Holds s n l → ⊥) → (high ≡ true → Holds s n m) → (high ≡ false → Holds s n m → ⊥) → number ≡ numberOf l → other ≡ numberOf m → pl ≡ start s n + offsetOf l → pl ≡ start s n + offsetOf m → Ruled s n (whole next) ls → Ruled s n (whole (Fault (number when low else other) pl when (low || high) else next)) (l ∷ m ∷ ls)
     unfolding _when_else_
     both l m true high lt lf ht hf a b c d more = rw (keeps _ _) (stops l (lt refl) a c)
     both l m false high lt lf ht hf a b c d more = passes l (lf refl) (step m high ht hf b d (λ e. more))
@@ -83,7 +83,7 @@ module _ (s : List ℕ) (n : ℕ) where
     pub holds : Holds s n line
     pub first : (l : Line) → r ≤ rank l → rank l < rank line → Holds s n l → ⊥
     pub number-is : number ≡ numberOf line
-    pub place-is : pl ≡ start n + offsetOf line
+    pub place-is : pl ≡ start s n + offsetOf line
 
   -- one line less
   further : (r : ℕ) (l m : Line) → rank l ≡ r → (Holds s n l → ⊥) → (suc r ≤ rank m → Holds s n m → ⊥) → r ≤ rank m → Holds s n m → ⊥

@@ -2,14 +2,15 @@
 use Prim.Native.Nat.{ℕ, _+_, _≤_, _<_}
 use native.Mathlib.Omega.{arith}
 use native.Mathlib.Numerals.{add-one}
-use mathlib.Core.Path.{_≡_, refl, ap, _∙_}
+use mathlib.Core.Path.{_≡_, ap, _∙_}
 use mathlib.Core.Bool.{true, false}
 use mathlib.Core.List.{List, [], _∷_}
 use lib.ListN.{length, getD, drop, drop-of-length-le}
 use lib.Seq.{drop-cons}
 use Rattle.framing.specs.First.{_when_else_}
+use Rattle.framing.specs.Header.{lengthAt}
 use Rattle.framing_numbers.specs.Numbers.{bytesOf, numberAt}
-use Rattle.plan_table.specs.Table.{bodyLength, fieldsOf, fieldCount, width, refusalOf, noField}
+use Rattle.plan_table.specs.Table.{bodyLength, linesOf, fieldsOf, fieldCount, width, refusalOf, noField}
 use Rattle.plan_checks.specs.Checks.{limitsAt}
 use Rattle.plan_checks.specs.Checks.{outside}
 use Rattle.plan.specs.Records.{fieldsFrom, fieldsAt}
@@ -17,41 +18,31 @@ use Rattle.plan_values.specs.declared.Platform.{Platform}
 use Rattle.plan_checks.specs.declared.Checked.the-variants.{Fault, Passed}
 use Rattle.plan_table.specs.declared.Field.{Field}
 use Rattle.plan_table.specs.declared.Kind.{Kind}
-use Rattle.plan_table.specs.declared.Kind.the-variants.{PlatformRecord, FlowRecord, EndRecord}
 use Rattle.plan_checks.specs.declared.Limits.{Limits}
-
--- the bytes of some fields
-abbrev pub sizeOf : List Field → ℕ
-sizeOf [] = 0
-sizeOf (f ∷ fs) = bytesOf (width f) + sizeOf fs
-
--- the table's fields fill the table's length
-pub filled : (kind : Kind) → sizeOf (fieldsOf kind) ≡ bodyLength kind
-filled PlatformRecord = refl
-filled FlowRecord = refl
-filled EndRecord = refl
-
-pub counted : (kind : Kind) → length (fieldsOf kind) ≡ fieldCount kind
-counted PlatformRecord = refl
-counted FlowRecord = refl
-counted EndRecord = refl
+use Rattle.plan_table.proofs.Lengths.{sizeOf, filled, counted, count-within, field-line}
 
 -- what the scan knows in front of field k of `end`, which stands at `offset`
 pub record Scanning (s : List ℕ) (at : ℕ) (kind : Kind) (p : Platform) (l : Limits) (end k offset : ℕ) : Type 0 where
-  pub whole : at + 3 + bodyLength kind ≤ length s
-  pub fields : end ≡ fieldCount kind
-  pub room : offset + sizeOf (drop k (fieldsOf kind)) ≡ 3 + bodyLength kind
-  pub rest : fieldsAt s at kind p ≡ fieldsFrom s at kind l offset (drop k (fieldsOf kind))
+  pub whole : at + 3 + bodyLength kind (lengthAt s at) ≤ length s
+  pub fields : end ≡ fieldCount kind (lengthAt s at)
+  pub room : offset + sizeOf (drop k (fieldsOf kind (lengthAt s at))) ≡ 3 + bodyLength kind (lengthAt s at)
+  pub rest : fieldsAt s at kind p ≡ fieldsFrom s at kind l offset (drop k (fieldsOf kind (lengthAt s at)))
 
-pub scanning-none : (s : List ℕ) (at : ℕ) (kind : Kind) (p : Platform) {l : Limits} {end : ℕ} → at + 3 + bodyLength kind ≤ length s → l ≡ limitsAt s at kind p → end ≡ fieldCount kind → Scanning s at kind p l end 0 3
-scanning-none s at kind p h e n = record { whole = h; fields = n; room = ap (λ (n : ℕ). 3 + n) (filled kind); rest = rw e }
+pub scanning-none : (s : List ℕ) (at : ℕ) (kind : Kind) (p : Platform) {l : Limits} {end : ℕ} → at + 3 + bodyLength kind (lengthAt s at) ≤ length s → l ≡ limitsAt s at kind p → end ≡ fieldCount kind (lengthAt s at) → Scanning s at kind p l end 0 3
+scanning-none s at kind p h e n = record { whole = h; fields = n; room = ap (λ (n : ℕ). 3 + n) (filled kind (lengthAt s at)); rest = rw e }
 
 module _ {s : List ℕ} {at : ℕ} {kind : Kind} {p : Platform} {l : Limits} {end k offset : ℕ} (w : Scanning s at kind p l end k offset) where
-  module _ {f : Field} (h : k < end) (e : f ≡ getD (fieldsOf kind) k noField) where
-    next-field : drop k (fieldsOf kind) ≡ f ∷ drop (k + 1) (fieldsOf kind)
-    next-field = rw (drop-cons (fieldsOf kind) k noField (rw (counted kind, ← w .fields) h), ← e, add-one k)
+  pub field-within : k < end → k < length (linesOf kind)
+  field-within h = omega (arith, w .fields, count-within kind (lengthAt s at))
 
-    size-left : sizeOf (drop k (fieldsOf kind)) ≡ bytesOf (width f) + sizeOf (drop (k + 1) (fieldsOf kind))
+  module _ {f : Field} (h : k < end) (e : f ≡ getD (linesOf kind) k noField) where
+    within : k < fieldCount kind (lengthAt s at)
+    within = omega (arith, w .fields)
+
+    next-field : drop k (fieldsOf kind (lengthAt s at)) ≡ f ∷ drop (k + 1) (fieldsOf kind (lengthAt s at))
+    next-field = rw (drop-cons (fieldsOf kind (lengthAt s at)) k noField (rw (counted kind (lengthAt s at), ← w .fields) h), field-line kind (lengthAt s at) within, ← e, add-one k)
+
+    size-left : sizeOf (drop k (fieldsOf kind (lengthAt s at))) ≡ bytesOf (width f) + sizeOf (drop (k + 1) (fieldsOf kind (lengthAt s at)))
     size-left = ap sizeOf next-field
 
     -- the field lies in the bytes
@@ -72,13 +63,13 @@ module _ {s : List ℕ} {at : ℕ} {kind : Kind} {p : Platform} {l : Limits} {en
     }
 
   module _ (h : end ≤ k) where
-    none-left : drop k (fieldsOf kind) ≡ []
-    none-left = drop-of-length-le (fieldsOf kind) {i = k} (rw (counted kind, ← w .fields) h)
+    none-left : drop k (fieldsOf kind (lengthAt s at)) ≡ []
+    none-left = drop-of-length-le (fieldsOf kind (lengthAt s at)) {i = k} (rw (counted kind (lengthAt s at), ← w .fields) h)
 
     pub scanned : fieldsAt s at kind p ≡ Passed kind
     unfolding fieldsFrom
     scanned = w .rest ∙ rw none-left
 
     -- behind the last field the next record starts
-    pub scanned-place : offset ≡ 3 + bodyLength kind
+    pub scanned-place : offset ≡ 3 + bodyLength kind (lengthAt s at)
     scanned-place = omega (arith, w .room, ap sizeOf none-left)

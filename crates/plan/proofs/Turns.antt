@@ -1,13 +1,14 @@
 -- The turns of the record loop: what has been read so far, and what each way out of a turn makes of it.
 use Prim.Native.Nat.{ℕ, suc, _+_, _-_, _≤_, _<_}
 use native.Mathlib.Omega.{arith}
-use mathlib.Core.Path.{_≡_, sym, ap, ap₂, _∙_}
+use mathlib.Core.Path.{_≡_, sym, ap, ap₂, subst, _∙_}
 use mathlib.Core.Bool.{Bool, true, false}
 use mathlib.Core.List.{List, [], _∷_, _++_}
 use lib.ListN.{length, getD, take, set, replicate, length-set}
 use lib.Seq.{length-take-le}
+use Rattle.framing.specs.Header.{lengthAt}
 use Rattle.framing_numbers.specs.Numbers.{bytesOf, numberAt}
-use Rattle.plan_table.specs.Table.{bodyLength, fieldsOf, fieldCount, width, refusalOf, noField}
+use Rattle.plan_table.specs.Table.{bodyLength, linesOf, fieldCount, width, refusalOf, noField}
 use Rattle.plan_values.specs.Values.{platformAt, flowAt, blankPlatform, blankFlow}
 use Rattle.plan_checks.specs.Checks.{limitsAt}
 use Rattle.plan_checks.specs.Checks.{frameAt, outside, restAt}
@@ -22,6 +23,7 @@ use Rattle.plan_table.specs.declared.Field.{Field}
 use Rattle.plan_checks.specs.declared.Limits.{Limits}
 use Rattle.plan_table.specs.declared.Kind.{Kind}
 use Rattle.plan_table.specs.declared.Kind.the-variants.{PlatformRecord, FlowRecord, EndRecord}
+use Rattle.plan_table.proofs.Lengths.{six-at-least}
 use Rattle.plan.proofs.Order.{framed, flow-room, rest-kind, record-frame, record-field, record-rest, fault-ends, platform-leads, flow-leads, end-accepts}
 use Rattle.plan.proofs.Scan.{Scanning, scanning-none, field-stops, scanning-more, scanned, scanned-place}
 use Rattle.plan.proofs.Padding.{taken-more, padded-more}
@@ -55,15 +57,29 @@ pub record Inside (s : List ℕ) (at : ℕ) (p : Platform) (flows : List Flow) (
   pub frame : frameAt s at count ≡ Passed kind
   pub scan : Scanning s at kind p l end k offset
 
-pub inside-none : {s : List ℕ} {at : ℕ} {p : Platform} {flows : List Flow} {ids priorities : List ℕ} {count : ℕ} {kind : Kind} {l : Limits} {end : ℕ} → Sofar s at p flows ids priorities count → frameAt s at count ≡ Passed kind → l ≡ limitsAt s at kind p → end ≡ fieldCount kind → Inside s at p flows ids priorities count kind l end 0 3
-inside-none {s} {at} {p} {count} {kind} w fe e n = record { sofar = w; frame = fe; scan = scanning-none s at kind p (framed s at count fe .whole) e n }
+pub inside-none : {s : List ℕ} {at : ℕ} {p : Platform} {flows : List Flow} {ids priorities : List ℕ} {count : ℕ} {kind : Kind} {l : Limits} {told end : ℕ} → Sofar s at p flows ids priorities count → frameAt s at count ≡ Passed kind → l ≡ limitsAt s at kind p → told ≡ lengthAt s at → end ≡ fieldCount kind told → Inside s at p flows ids priorities count kind l end 0 3
+inside-none {s} {at} {p} {count} {kind} w fe e t n = record { sofar = w; frame = fe; scan = scanning-none s at kind p (framed s at count fe .whole) e (n ∙ ap (fieldCount kind) t) }
 
 module _ {s : List ℕ} {at : ℕ} {p : Platform} {flows : List Flow} {ids priorities : List ℕ} {count : ℕ} {kind : Kind} {l : Limits} {end k offset : ℕ} (w : Inside s at p flows ids priorities count kind l end k offset) where
+  -- the record lies in the bytes
+  module _ {known : Kind} (e : kind ≡ known) where
+    own-size : lengthAt s at ≡ bodyLength known (lengthAt s at)
+    own-size = framed s at count (w .frame) .size ∙ ap (λ (k : Kind). bodyLength k (lengthAt s at)) e
+
+    own-whole : at + 3 + bodyLength known (lengthAt s at) ≤ length s
+    own-whole = subst (λ (k : Kind). at + 3 + bodyLength k (lengthAt s at) ≤ length s) e (w .scan .whole)
+
+  pub platform-inside : kind ≡ PlatformRecord → (at + 9 ≤ length s) × (at + 3 + lengthAt s at ≤ length s)
+  platform-inside e = (omega (arith, own-whole e, six-at-least (lengthAt s at)), omega (arith, own-whole e, own-size e))
+
+  pub flow-inside : kind ≡ FlowRecord → at + 23 ≤ length s
+  flow-inside e = omega (arith, own-whole e)
+
   frame-fine : frameAt s at (length (take count flows)) ≡ Passed kind
   frame-fine = rw (same-count (w .sofar)) (w .frame)
 
   -- a field, its value and what the check of it said
-  module _ {f : Field} {v : ℕ} {b : Bool} (h : k < end) (e : f ≡ getD (fieldsOf kind) k noField) (q : v ≡ numberAt s (width f) (at + offset)) (o : b ≡ outside l f v) where
+  module _ {f : Field} {v : ℕ} {b : Bool} (h : k < end) (e : f ≡ getD (linesOf kind) k noField) (q : v ≡ numberAt s (width f) (at + offset)) (o : b ≡ outside l f v) where
     pub field-refuses : {number : ℕ} → b ≡ true → number ≡ refusalOf f v → refused number (at + offset) ≡ readPlan s
     field-refuses t n = ap (λ (x : ℕ). refused x (at + offset)) n ∙ sym (w .sofar .rest ∙ fault-ends s at p _ _ (record-field s at p _ frame-fine (field-stops (w .scan) h e q (sym o ∙ t))))
 
@@ -89,15 +105,16 @@ module _ {s : List ℕ} {at : ℕ} {p : Platform} {flows : List Flow} {ids prior
       end-accepted e = sym (w .sofar .rest ∙ end-accepts s at p _ _ (fine e))
 
       -- a turn is spent, and the place moves on by the record
-      spent : {known : Kind} → kind ≡ known → (w .sofar .left ≡ suc (w .sofar .left - 1)) × (length s ≤ (at + offset) + (w .sofar .left - 1)) × (at + offset ≡ at + (3 + bodyLength known))
+      spent : {known : Kind} → kind ≡ known → (w .sofar .left ≡ suc (w .sofar .left - 1)) × (length s ≤ (at + offset) + (w .sofar .left - 1)) × (at + offset ≡ at + (3 + bodyLength known (lengthAt s at)))
       spent e =
           let x = scanned-place (w .scan) h in
-          let y = ap bodyLength e in
+          let y = ap (λ (k : Kind). bodyLength k (lengthAt s at)) e in
           (omega (arith, w .sofar .enough, w .scan .whole), omega (arith, w .sofar .enough, w .scan .whole), omega arith)
 
       pub platform-taken : {q : Platform} → kind ≡ PlatformRecord → q ≡ platformAt s at → Sofar s (at + offset) q flows ids priorities count
       platform-taken {q} e g =
           let t = spent e in
+          let z : at + 3 + lengthAt s at ≡ at + offset = omega (arith, t .2, own-size e) in
           record {
             left = w .sofar .left - 1;
             enough = t .1;
@@ -106,7 +123,7 @@ module _ {s : List ℕ} {at : ℕ} {p : Platform} {flows : List Flow} {ids prior
             blank = w .sofar .blank;
             id-column = w .sofar .id-column;
             priority-column = w .sofar .priority-column;
-            rest = w .sofar .rest ∙ platform-leads s at p _ _ (fine e) ∙ λ i. records (t .0 i) s (sym (t .2) i) (sym g i) (take count flows);
+            rest = w .sofar .rest ∙ platform-leads s at p _ _ (fine e) ∙ λ i. records (t .0 i) s (z i) (sym g i) (take count flows);
           }
 
       pub flow-taken : {f : Flow} → kind ≡ FlowRecord → f ≡ flowAt s at → Sofar s (at + offset) p (set flows count f) (set ids count (f .id)) (set priorities count (f .priority)) (count + 1)

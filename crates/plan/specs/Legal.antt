@@ -19,6 +19,7 @@ pub record LegalPlatform (p : Platform) : Type 0 where
   pub routing : Within 0 16 (p .routing)
   pub buffer : Within 1 64 (p .buffer)
   pub method : Within 0 3 (p .method)
+  pub «priority_flits» : Within 0 8 (p .«priority_flits»)  -- "priority flits 1..8 .. A six-byte record means zero"
 
 -- The table's line "02 flow", and that the source is not the destination (refusal 9).
 pub record LegalFlow (p : Platform) (f : Flow) : Type 0 where

@@ -1,6 +1,7 @@
 -- Document 01, "The program `bounds`": "Plan P (hex, 81 bytes)".
 use Prim.Native.Nat.{ℕ}
-use mathlib.Core.List.{List, [], _∷_}
+use mathlib.Core.List.{List, [], _∷_, _++_}
+use lib.ListN.{take, drop, set}
 
 abbrev pub P : List ℕ
 P =
@@ -12,3 +13,7 @@ P =
     0x02 ∷ 0x00 ∷ 0x14 ∷ 0x00 ∷ 0x05 ∷ 0x00 ∷ 0x03 ∷ 0x01 ∷ 0x04 ∷ 0x00 ∷ 0x80 ∷
     0x00 ∷ 0x00 ∷ 0x17 ∷ 0x70 ∷ 0x00 ∷ 0x00 ∷ 0x17 ∷ 0x70 ∷ 0x00 ∷ 0x00 ∷ 0x00 ∷ 0x00 ∷
     0x7F ∷ 0x00 ∷ 0x00 ∷ []
+
+-- Document 02, L7: P with a seventh byte in its platform record.
+abbrev pub withSeventh : ℕ → List ℕ
+withSeventh flits = (set (take 9 P) 2 7 ++ flits ∷ []) ++ drop 9 P

@@ -2,6 +2,7 @@
 use Prim.Native.Nat.{ℕ, zero, suc, _+_}
 use mathlib.Core.List.{List, [], _∷_, _++_}
 use lib.ListN.{length}
+use Rattle.framing.specs.Header.{lengthAt}
 use Rattle.plan_values.specs.Values.{platformAt, flowAt, blankPlatform, blankFlow}
 use Rattle.plan.specs.Padded.{padded}
 use Rattle.plan.specs.Records.{recordAt}
@@ -36,7 +37,7 @@ after (Passed EndRecord) ended platform flow = ended
 unfoldable pub records : ℕ → List ℕ → ℕ → Platform → List Flow → Reading
 records zero s at p fs = refused 1 at
 records (suc turns) s at p fs =
-    let platform = records turns s (at + 9) (platformAt s at) fs in
+    let platform = records turns s (at + 3 + lengthAt s at) (platformAt s at) fs in
     let flow = records turns s (at + 23) p (fs ++ flowAt s at ∷ []) in
     after (recordAt s at p fs) (accepted p fs) platform flow
 

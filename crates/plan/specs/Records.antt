@@ -4,6 +4,7 @@ use Prim.Native.Nat.{ℕ, _+_}
 use mathlib.Core.List.{List, [], _∷_, map}
 use lib.ListN.{length}
 use Rattle.framing.specs.First.{_when_else_}
+use Rattle.framing.specs.Header.{lengthAt}
 use Rattle.framing_numbers.specs.Numbers.{bytesOf, numberAt}
 use Rattle.plan_table.specs.Table.{fieldsOf, width, refusalOf}
 use Rattle.plan_table.specs.declared.Kind.{Kind}
@@ -23,9 +24,9 @@ fieldsFrom s at kind l offset (f ∷ rest) =
     Fault (refusalOf f v) (at + offset) when outside l f v else
     fieldsFrom s at kind l (offset + bytesOf (width f)) rest
 
--- The first field stands behind the tag and the length.
+-- The first field stands behind the tag and the length; how many there are depends on the length.
 abbrev pub fieldsAt : List ℕ → ℕ → Kind → Platform → Checked
-fieldsAt s at kind p = fieldsFrom s at kind (limitsAt s at kind p) 3 (fieldsOf kind)
+fieldsAt s at kind p = fieldsFrom s at kind (limitsAt s at kind p) 3 (fieldsOf kind (lengthAt s at))
 
 -- The ids and the priorities of flows.
 abbrev pub idsOf : List Flow → List ℕ

@@ -5,6 +5,7 @@ ghost use lib.ListN.{take};
 ghost use Rattle.plan.specs.Reading.{accepted, refused, readPlan};
 ghost use Rattle.plan.specs.Padded.{padded};
 ghost use Rattle.plan_values.specs.Values.{blankFlow};
+use framing::header::length_at;
 use framing::returned::Outcome;
 use framing_numbers::bytes_of;
 use framing_numbers::number_at;
@@ -84,7 +85,7 @@ pub fn read(bytes: &[u8]) -> Reading
         };
         let limits = limits_at(bytes, at, kind, platform);
         let mut offset: usize = 3;
-        for k in 0..field_count(kind) {
+        for k in 0..field_count(kind, length_at(bytes, at)) {
             let field = field_of(kind, k);
             let Field(width, _, _, _) = field;
             let value = number_at(bytes, width, at + offset);

@@ -5,7 +5,7 @@ use mathlib.Core.Bool.{Bool, true, false}
 use mathlib.Core.List.{List, [], _∷_, map}
 use lib.ListN.{getD}
 use Rattle.framing.specs.First.{_when_else_}
-use Rattle.plan_table.specs.Table.{fieldsOf, noField}
+use Rattle.plan_table.specs.Table.{linesOf, noField}
 use Rattle.plan_table.specs.declared.Kind.{Kind}
 use Rattle.plan_table.specs.declared.Kind.the-variants.{PlatformRecord, FlowRecord}
 use Rattle.plan_checks.specs.Checks.{limitsAt, outside, clashAt}
@@ -18,7 +18,7 @@ abbrev bytes : List ℕ
 bytes = 0xEE ∷ 0x02 ∷ 0 ∷ 20 ∷ 0 ∷ 7 ∷ 0 ∷ 9 ∷ 13 ∷ 14 ∷ 0 ∷ 60 ∷ 0 ∷ 0 ∷ 0x03 ∷ 0xE8 ∷ 0 ∷ 0 ∷ 0 ∷ 200 ∷ 0 ∷ 0 ∷ 0 ∷ 3 ∷ []
 
 abbrev limits : Limits
-limits = limitsAt bytes 1 FlowRecord (record { columns = 5; rows = 3; link = 2; routing = 4; buffer = 7; method = 1 })
+limits = limitsAt bytes 1 FlowRecord (record { columns = 5; rows = 3; link = 2; routing = 4; buffer = 7; method = 1; «priority_flits» = 0 })
 
 -- "below columns x rows", "1..period"
 limits-are : limits ≡ record { nodes = 15; period = 1000 }
@@ -26,7 +26,7 @@ limits-are = refl
 
 -- Whether values are outside those of field k of a record.
 abbrev outsides : Kind → ℕ → List ℕ → List Bool
-outsides kind k values = map (outside limits (getD (fieldsOf kind) k noField)) values
+outsides kind k values = map (outside limits (getD (linesOf kind) k noField)) values
 
 abbrev sides : List Bool
 sides = true ∷ false ∷ false ∷ true ∷ []
@@ -39,8 +39,9 @@ platform-sides :
     ∷ outsides PlatformRecord 3 (17 ∷ 0 ∷ 16 ∷ 17 ∷ [])
     ∷ outsides PlatformRecord 4 (0 ∷ 1 ∷ 64 ∷ 65 ∷ [])
     ∷ outsides PlatformRecord 5 (4 ∷ 0 ∷ 3 ∷ 4 ∷ [])
+    ∷ outsides PlatformRecord 6 (0 ∷ 1 ∷ 8 ∷ 9 ∷ [])
     ∷ []
-    ≡ sides ∷ sides ∷ sides ∷ sides ∷ sides ∷ sides ∷ []
+    ≡ sides ∷ sides ∷ sides ∷ sides ∷ sides ∷ sides ∷ sides ∷ []
 platform-sides = refl
 
 flow-sides :

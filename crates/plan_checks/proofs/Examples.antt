@@ -3,10 +3,11 @@ use Prim.Native.Nat.{ℕ}
 use mathlib.Core.Path.{_≡_, refl}
 use mathlib.Core.List.{List, [], _∷_, map}
 use Rattle.framing.specs.First.{_when_else_}
-use Rattle.plan_table.specs.Table.{tagOf}
+use Rattle.plan_table.specs.Table.{tagOf, sixOrSeven}
 use Rattle.plan_checks.specs.Checks.{headerAt, taggedAt, frameAt}
 use Rattle.plan_checks.specs.declared.Checked.{Checked}
-use Rattle.plan_checks.specs.declared.Checked.the-variants.{Fault}
+use Rattle.plan_checks.specs.declared.Checked.the-variants.{Fault, Passed}
+use Rattle.plan_table.specs.declared.Kind.the-variants.{PlatformRecord}
 
 -- records that start the plan, and records behind two bytes and 64 flows
 first : List (List ℕ) → List Checked
@@ -21,11 +22,26 @@ first-frames :
     ∷ (0x02 ∷ []) ∷ (0x7F ∷ 0x00 ∷ [])  -- 1 before 4
     ∷ (0x03 ∷ 0x00 ∷ 0x00 ∷ [])  -- 2 before 4
     ∷ (0x02 ∷ 0x00 ∷ 0x13 ∷ [])  -- 4 before 3
-    ∷ (0x01 ∷ 0x00 ∷ 0x07 ∷ [])  -- 3 before 1
+    ∷ (0x01 ∷ 0x00 ∷ 0x05 ∷ []) ∷ (0x01 ∷ 0x00 ∷ 0x08 ∷ [])  -- 3 before 1
     ∷ [])
-    ≡ Fault 1 0 ∷ Fault 1 0 ∷ Fault 1 0 ∷ Fault 1 0 ∷ Fault 1 0 ∷ Fault 1 0 ∷ Fault 2 0 ∷ Fault 4 0 ∷ Fault 3 1 ∷ []
-unfolding tagOf headerAt taggedAt frameAt _when_else_ first
+    ≡ Fault 1 0 ∷ Fault 1 0 ∷ Fault 1 0 ∷ Fault 1 0 ∷ Fault 1 0 ∷ Fault 1 0 ∷ Fault 2 0 ∷ Fault 4 0 ∷ Fault 3 1 ∷ Fault 3 1 ∷ []
+unfolding tagOf sixOrSeven headerAt taggedAt frameAt _when_else_ first
 first-frames = refl
+
+-- "length 6 or 7 is now legal for tag 01": with a byte less than it tells each is cut, with all of them it passes, and with 5, 8 or 0x0107 told it is refused.
+platform-frames :
+    first
+    ((0x01 ∷ 0 ∷ 6 ∷ 1 ∷ 2 ∷ 3 ∷ 4 ∷ 5 ∷ [])
+    ∷ (0x01 ∷ 0 ∷ 7 ∷ 1 ∷ 2 ∷ 3 ∷ 4 ∷ 5 ∷ 6 ∷ [])
+    ∷ (0x01 ∷ 0 ∷ 6 ∷ 1 ∷ 2 ∷ 3 ∷ 4 ∷ 5 ∷ 6 ∷ [])
+    ∷ (0x01 ∷ 0 ∷ 7 ∷ 1 ∷ 2 ∷ 3 ∷ 4 ∷ 5 ∷ 6 ∷ 7 ∷ [])
+    ∷ (0x01 ∷ 0 ∷ 5 ∷ 1 ∷ 2 ∷ 3 ∷ 4 ∷ 5 ∷ [])
+    ∷ (0x01 ∷ 0 ∷ 8 ∷ 1 ∷ 2 ∷ 3 ∷ 4 ∷ 5 ∷ 6 ∷ 7 ∷ 8 ∷ [])
+    ∷ (0x01 ∷ 1 ∷ 7 ∷ 1 ∷ 2 ∷ 3 ∷ 4 ∷ 5 ∷ 6 ∷ 7 ∷ [])
+    ∷ [])
+    ≡ Fault 1 0 ∷ Fault 1 0 ∷ Passed PlatformRecord ∷ Passed PlatformRecord ∷ Fault 3 1 ∷ Fault 3 1 ∷ Fault 3 1 ∷ []
+unfolding tagOf sixOrSeven headerAt taggedAt frameAt _when_else_ first
+platform-frames = refl
 
 later-frames :
     later

@@ -42,7 +42,7 @@ misplaced first kind = (first && not (isPlatform kind)) || (not first && isPlatf
 
 -- 3: "length is not the tag's"
 abbrev pub wrongLength : List ℕ → ℕ → Kind → Bool
-wrongLength s at kind = not (eqb (lengthAt s at) (bodyLength kind))
+wrongLength s at kind = not (eqb (lengthAt s at) (bodyLength kind (lengthAt s at)))
 
 -- 6: "a 65th flow", behind `count` flows
 abbrev pub noRoom : Kind → ℕ → Bool

@@ -2,6 +2,7 @@
 ghost use mathlib.Core.Path.{_≡_};
 ghost use Prim.Native.Nat.{_+_, _^_, _≤_, _<_};
 ghost use lib.ListN.{length};
+ghost use Rattle.framing.specs.Header.{lengthAt};
 ghost use Rattle.plan_table.specs.Table.{bodyLength, refusalAbove, refusalOf};
 ghost use Rattle.plan_checks.specs.Checks.{periodAt, limitsAt, isPlatform, misplaced, wrongLength, noRoom, headerAt, frameAt, above, outside, taken, clashAt, tailAt, restAt};
 use framing::header::body_cut;
@@ -32,7 +33,7 @@ pub enum Checked {
 }
 
 fn period_at(bytes: &[u8], at: usize, kind: Kind) -> u32
-    requires { ⌜ at + 3 + bodyLength kind ≤ length (now bytes) ⌝ }
+    requires { ⌜ at + 3 + bodyLength kind (lengthAt (now bytes) at) ≤ length (now bytes) ⌝ }
     ensures { λ r. ⌜ r ≡ periodAt (now (bytes .entry)) at kind ⌝ }
 {
     match kind {
@@ -43,7 +44,7 @@ fn period_at(bytes: &[u8], at: usize, kind: Kind) -> u32
 }
 
 pub fn limits_at(bytes: &[u8], at: usize, kind: Kind, platform: Platform) -> Limits
-    requires { ⌜ at + 3 + bodyLength kind ≤ length (now bytes) ⌝ }
+    requires { ⌜ at + 3 + bodyLength kind (lengthAt (now bytes) at) ≤ length (now bytes) ⌝ }
     ensures { λ r. ⌜ r ≡ limitsAt (now (bytes .entry)) at kind platform ⌝ }
 {
     Limits {
@@ -75,7 +76,8 @@ fn wrong_length(bytes: &[u8], at: usize, kind: Kind) -> bool
     requires { ⌜ at + 3 ≤ length (now bytes) ⌝ }
     ensures { λ r. ⌜ r ≡ wrongLength (now (bytes .entry)) at kind ⌝ }
 {
-    length_at(bytes, at) != body_length(kind)
+    let told = length_at(bytes, at);
+    told != body_length(kind, told)
 }
 
 // 6: a 65th flow.
@@ -206,7 +208,7 @@ fn check_tail(bytes: &[u8], at: usize) -> Checked
 
 // Behind the fields: 9, 7, 8 of a flow, 10 of the end.
 pub fn check_rest(bytes: &[u8], at: usize, kind: Kind, ids: &[u16], priorities: &[u16]) -> Checked
-    requires { ⌜ at + 3 + bodyLength kind ≤ length (now bytes) ⌝ }
+    requires { ⌜ at + 3 + bodyLength kind (lengthAt (now bytes) at) ≤ length (now bytes) ⌝ }
     ensures { λ r. ⌜ r ≡ restAt (now (bytes .entry)) at kind (now (ids .entry)) (now (priorities .entry)) ⌝ }
 {
     match kind {

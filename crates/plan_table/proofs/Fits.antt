@@ -1,21 +1,21 @@
--- A record's field is a line of the table.
+-- A record's field is a line of the table, and which lines a record has.
 use Prim.Native.Nat.{ℕ, zero, suc, _+_, _≤_, _<_}
 use native.Mathlib.Omega.{arith}
 use native.Mathlib.Nat.{zero-add}
 use mathlib.Core.Path.{_≡_, sym, ap, _∙_}
-use lib.ListN.{getD, List·getD-append}
+use lib.ListN.{length, getD, List·getD-append}
 use lib.Seq.{getD-append-add}
-use Rattle.plan_table.specs.Table.{fieldsOf, platformFields, flowFields, lines, fieldCount, firstLine, noField}
+use Rattle.plan_table.specs.Table.{linesOf, platformFields, flowFields, lines, firstLine, noField}
 use Rattle.plan_table.specs.declared.Kind.{Kind}
 use Rattle.plan_table.specs.declared.Kind.the-variants.{PlatformRecord, FlowRecord, EndRecord}
 
 -- a record's field is a line of the table
-pub line-inside : (kind : Kind) {k : ℕ} → k < fieldCount kind → firstLine kind + k < 14
+pub line-inside : (kind : Kind) {k : ℕ} → k < length (linesOf kind) → firstLine kind + k < 15
 line-inside PlatformRecord h = omega arith
 line-inside FlowRecord h = omega arith
 line-inside EndRecord h = omega arith
 
-pub line-is : (kind : Kind) {k : ℕ} → k < fieldCount kind → getD lines (firstLine kind + k) noField ≡ getD (fieldsOf kind) k noField
+pub line-is : (kind : Kind) {k : ℕ} → k < length (linesOf kind) → getD lines (firstLine kind + k) noField ≡ getD (linesOf kind) k noField
 line-is PlatformRecord {k} h = ap (λ (n : ℕ). getD lines n noField) (zero-add k) ∙ List·getD-append platformFields flowFields noField k h
 line-is FlowRecord {k} h = getD-append-add platformFields flowFields k noField
 line-is EndRecord h = absurd (omega arith)
@@ -33,5 +33,5 @@ none-below (suc n) h = let l = none-below n (h .0) in omega (arith, h .1)
 pub line-of : {line n : ℕ} → line ≡ n → getD lines n noField ≡ getD lines line noField
 line-of e = ap (λ (n : ℕ). getD lines n noField) (sym e)
 
-pub last-line : {line : ℕ} → line < 14 → NoneOf 13 line → getD lines 13 noField ≡ getD lines line noField
-last-line {line} h none = let e : line ≡ 13 = omega (arith, none-below 13 none) in line-of e
+pub last-line : {line : ℕ} → line < 15 → NoneOf 14 line → getD lines 14 noField ≡ getD lines line noField
+last-line {line} h none = let e : line ≡ 14 = omega (arith, none-below 14 none) in line-of e

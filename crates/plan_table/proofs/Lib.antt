@@ -1,4 +1,5 @@
 pub mod Tags
 mod Fits
+pub mod Lengths
 pub mod Numbers
 mod Examples

@@ -1,4 +1,4 @@
--- Document 01, "What sends a plan back", columns "No." and "Place", with document 02's numbers for the fields ("Say which field").
+-- Document 01, "What sends a plan back", columns "No." and "Place", with document 02's numbers for the fields (L2, "Say which field", and L7).
 -- A line is a refusal's number and its place, counted from the start of the record in fault.
 use Prim.Native.Nat.{ℕ}
 use mathlib.Core.Bool.{Bool, false, _&&_, _||_}
@@ -23,7 +23,8 @@ platformRefusals =
     (22, 5) ∷  -- link cycles
     (23, 6) ∷  -- routing cycles
     (24, 7) ∷  -- buffer flits
-    (25, 8) ∷ []  -- method
+    (25, 8) ∷  -- method
+    (26, 9) ∷ []  -- priority flits: "26 at its place"
 
 -- Of a flow record.
 abbrev pub flowRefusals : List (ℕ × ℕ)
@@ -50,9 +51,9 @@ refusalsOf PlatformRecord = platformRefusals
 refusalsOf FlowRecord = flowRefusals
 refusalsOf EndRecord = endRefusals
 
--- So the reader's numbers are 1 to 10 without 5, 20 to 25, and 30 to 38.
+-- So the reader's numbers are 1 to 10 without 5, 20 to 26, and 30 to 38.
 abbrev pub isNumber : ℕ → Bool
-isNumber n = (leb 1 n && leb n 4) || (leb 6 n && leb n 10) || (leb 20 n && leb n 25) || (leb 30 n && leb n 38)
+isNumber n = (leb 1 n && leb n 4) || (leb 6 n && leb n 10) || (leb 20 n && leb n 26) || (leb 30 n && leb n 38)
 
 -- Whether some lines have this one.
 abbrev pub has : List (ℕ × ℕ) → ℕ → ℕ → Bool

@@ -1,7 +1,8 @@
--- Document 01, "The plan's bytes": the table of records and their fields, a line here for a line there.
+-- Document 01, "The plan's bytes", with document 02, L7: the table of records and their fields, a line here for a line there.
 use Prim.Native.Nat.{ℕ}
 use mathlib.Core.List.{List, [], _∷_, _++_}
 use lib.Dec.{ltb, eqb}
+use lib.ListN.{take}
 use Rattle.framing.specs.First.{_when_else_}
 use Rattle.framing_numbers.specs.declared.Width.{Width}
 use Rattle.framing_numbers.specs.declared.Width.the-variants.{One, Two, Four}
@@ -27,15 +28,19 @@ tagByte PlatformRecord = 0x01
 tagByte FlowRecord = 0x02
 tagByte EndRecord = 0x7F
 
--- Column "Length".
-abbrev pub bodyLength : Kind → ℕ
-bodyLength PlatformRecord = 6
-bodyLength FlowRecord = 20
-bodyLength EndRecord = 0
+-- "length 6 or 7 is now legal for tag 01": seven where the record's own length bytes tell that, else six.
+unfoldable pub sixOrSeven : ℕ → ℕ
+sixOrSeven told = 7 when eqb told 7 else 6
+
+-- Column "Length", of a record that tells this one.
+abbrev pub bodyLength : Kind → ℕ → ℕ
+bodyLength PlatformRecord told = sixOrSeven told
+bodyLength FlowRecord told = 20
+bodyLength EndRecord told = 0
 
 -- Column "Fields in order (bytes): allowed values". A line is the field's bytes, its lowest value, its highest
 -- (or what that depends on), and the refusal of a value outside them: document 02, "20 to 25 for the platform's fields from
--- columns to method, 30 to 37 for the flow's from id to jitter".
+-- columns to method, 30 to 37 for the flow's from id to jitter", and "a seventh byte of zero or above 8 gets 26 at its place, after 25".
 abbrev pub platformFields : List Field
 platformFields =
     (One, 1, UpTo 8, 20) ∷  -- columns (1): 1..8
@@ -43,7 +48,8 @@ platformFields =
     (One, 1, UpTo 16, 22) ∷  -- link cycles (1): 1..16
     (One, 0, UpTo 16, 23) ∷  -- routing cycles (1): 0..16
     (One, 1, UpTo 64, 24) ∷  -- buffer flits (1): 1..64
-    (One, 0, UpTo 3, 25) ∷ []  -- method (1): 0..3
+    (One, 0, UpTo 3, 25) ∷  -- method (1): 0..3
+    (One, 1, UpTo 8, 26) ∷ []  -- "a seventh byte, priority flits 1..8"
 
 abbrev pub flowFields : List Field
 flowFields =
@@ -56,10 +62,21 @@ flowFields =
     (Four, 1, UpToPeriod 38, 36) ∷  -- deadline (4): 1..period; "36 is deadline zero, 38 is deadline above period"
     (Four, 0, UpTo 1_000_000_000, 37) ∷ []  -- jitter (4): 0..1,000,000,000
 
-abbrev pub fieldsOf : Kind → List Field
-fieldsOf PlatformRecord = platformFields
-fieldsOf FlowRecord = flowFields
-fieldsOf EndRecord = []
+abbrev pub linesOf : Kind → List Field
+linesOf PlatformRecord = platformFields
+linesOf FlowRecord = flowFields
+linesOf EndRecord = []
+
+-- How many of them a record has. A platform's have a byte each, so that they are as many as its length.
+abbrev pub fieldCount : Kind → ℕ → ℕ
+fieldCount PlatformRecord told = sixOrSeven told
+fieldCount FlowRecord told = 8
+fieldCount EndRecord told = 0
+
+abbrev pub fieldsOf : Kind → ℕ → List Field
+fieldsOf PlatformRecord told = take (sixOrSeven told) platformFields
+fieldsOf FlowRecord told = flowFields
+fieldsOf EndRecord told = []
 
 -- The columns of a field's line.
 abbrev pub width : Field → Width
@@ -81,19 +98,14 @@ refusalAbove (UpToPeriod own) refusal = own
 abbrev pub refusalOf : Field → ℕ → ℕ
 refusalOf f v = f .3 when ltb v (lowestOf f) else refusalAbove (highestOf f) (f .3)
 
--- How many fields a record has; the lines of all records, and where those of one begin; what stands behind the last.
-abbrev pub fieldCount : Kind → ℕ
-fieldCount PlatformRecord = 6
-fieldCount FlowRecord = 8
-fieldCount EndRecord = 0
-
+-- The lines of all records, and where those of one begin; what stands behind the last.
 abbrev pub lines : List Field
 lines = platformFields ++ flowFields
 
 abbrev pub firstLine : Kind → ℕ
 firstLine PlatformRecord = 0
-firstLine FlowRecord = 6
-firstLine EndRecord = 14
+firstLine FlowRecord = 7
+firstLine EndRecord = 15
 
 abbrev pub noField : Field
 noField = (One, 0, UpTo 0, 0)

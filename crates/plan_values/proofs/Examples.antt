@@ -1,12 +1,23 @@
 -- A platform record and a flow record at place 2 of some bytes, no byte twice: each value is read where it stands, and most significant byte first.
 use mathlib.Core.Path.{_≡_, refl}
-use mathlib.Core.List.{[], _∷_}
-use Rattle.plan_values.specs.Values.{platformAt, flowAt}
+use mathlib.Core.List.{[], _∷_, map}
+use Prim.Native.Nat.{ℕ}
+use Rattle.framing.specs.First.{_when_else_}
+use Rattle.plan_values.specs.Values.{sixAt, priorityFlitsAt, platformAt, platformLength, flowAt}
 
+-- "A six-byte record means zero", whatever stands behind it; a seven-byte record has its seventh.
 platform-read :
-    platformAt (0xEE ∷ 0xEF ∷ 0x01 ∷ 0x00 ∷ 0x06 ∷ 5 ∷ 3 ∷ 2 ∷ 4 ∷ 7 ∷ 1 ∷ 0xFE ∷ []) 2
-    ≡ record { columns = 5; rows = 3; link = 2; routing = 4; buffer = 7; method = 1 }
-platform-read = refl
+    (platformAt (0xEE ∷ 0xEF ∷ 0x01 ∷ 0x00 ∷ 0x06 ∷ 5 ∷ 3 ∷ 2 ∷ 4 ∷ 7 ∷ 1 ∷ 0xFE ∷ []) 2
+    ≡ record { columns = 5; rows = 3; link = 2; routing = 4; buffer = 7; method = 1; «priority_flits» = 0 })
+    × (platformAt (0xEE ∷ 0xEF ∷ 0x01 ∷ 0x00 ∷ 0x07 ∷ 5 ∷ 3 ∷ 2 ∷ 4 ∷ 7 ∷ 1 ∷ 6 ∷ 0xFE ∷ []) 2
+    ≡ record { columns = 5; rows = 3; link = 2; routing = 4; buffer = 7; method = 1; «priority_flits» = 6 })
+unfolding priorityFlitsAt _when_else_
+platform-read = (refl, refl)
+
+-- "A six-byte record means zero, and the writer uses it then".
+platform-lengths : map (λ (n : ℕ). platformLength (sixAt [] 0 n)) (0 ∷ 1 ∷ 7 ∷ 8 ∷ 255 ∷ []) ≡ 6 ∷ 7 ∷ 7 ∷ 7 ∷ 7 ∷ []
+unfolding platformLength _when_else_
+platform-lengths = refl
 
 flow-read :
     flowAt

@@ -2,7 +2,10 @@
 ghost use mathlib.Core.Path.{_≡_};
 ghost use Prim.Native.Nat.{_+_, _≤_};
 ghost use lib.ListN.{length};
-ghost use Rattle.plan_values.specs.Values.{platformAt, flowAt, blankPlatform, blankFlow};
+ghost use Rattle.framing.specs.Header.{lengthAt};
+ghost use Rattle.plan_values.specs.Values.{sixAt, priorityFlitsAt, platformAt, platformLength, flowAt, blankPlatform, blankFlow};
+use framing::header::length_at;
+use framing_numbers::one_at;
 use framing_reader::four;
 use framing_reader::one;
 use framing_reader::past;
@@ -17,6 +20,7 @@ pub struct Platform {
     pub routing: u8,
     pub buffer: u8,
     pub method: u8,
+    pub priority_flits: u8,
 }
 
 #[repr(C)]
@@ -35,9 +39,10 @@ pub struct Flow {
 pub type Flows = [Flow; 64];
 
 // The values of a record, by a reader that starts at its tag: each name is the reader at that field.
-pub fn platform_at(bytes: &[u8], at: usize) -> Platform
+// Of a platform those that every record has.
+fn six_at(bytes: &[u8], at: usize) -> Platform
     requires { ⌜ at + 9 ≤ length (now bytes) ⌝ }
-    ensures { λ r. ⌜ r ≡ platformAt (now (bytes .entry)) at ⌝ }
+    ensures { λ r. ⌜ r ≡ sixAt (now (bytes .entry)) at 0 ⌝ }
 {
     let columns = past(reader_at(bytes, at), 3);
     let rows = past(columns, 1);
@@ -52,7 +57,45 @@ pub fn platform_at(bytes: &[u8], at: usize) -> Platform
         routing: one(routing),
         buffer: one(buffer),
         method: one(method),
+        priority_flits: 0,
     }
+}
+
+// The seventh byte, where the record has one.
+fn priority_flits_at(bytes: &[u8], at: usize) -> u8
+    requires { ⌜ (at + 3 ≤ length (now bytes)) × (at + 3 + lengthAt (now bytes) at ≤ length (now bytes)) ⌝ }
+    ensures { λ r. ⌜ r ≡ priorityFlitsAt (now (bytes .entry)) at ⌝ }
+{
+    if length_at(bytes, at) == 7 {
+        return one_at(bytes, at + 9);
+    }
+    0
+}
+
+pub fn platform_at(bytes: &[u8], at: usize) -> Platform
+    requires { ⌜ (at + 9 ≤ length (now bytes)) × (at + 3 + lengthAt (now bytes) at ≤ length (now bytes)) ⌝ }
+    ensures { λ r. ⌜ r ≡ platformAt (now (bytes .entry)) at ⌝ }
+{
+    let six = six_at(bytes, at);
+    Platform {
+        columns: six.columns,
+        rows: six.rows,
+        link: six.link,
+        routing: six.routing,
+        buffer: six.buffer,
+        method: six.method,
+        priority_flits: priority_flits_at(bytes, at),
+    }
+}
+
+// The body length of the record that holds a platform.
+pub fn platform_length(p: Platform) -> u8
+    ensures { λ r. ⌜ (r ≡ platformLength p) × (6 ≤ r) × (r ≤ 7) ⌝ }
+{
+    if p.priority_flits == 0 {
+        return 6;
+    }
+    7
 }
 
 pub fn flow_at(bytes: &[u8], at: usize) -> Flow
@@ -89,6 +132,7 @@ pub fn blank_platform() -> Platform
         routing: 0,
         buffer: 0,
         method: 0,
+        priority_flits: 0,
     }
 }
 

@@ -7,19 +7,23 @@ use Rattle.framing.specs.Each.{each}
 use Rattle.framing.specs.First.{_when_else_}
 use Rattle.framing.specs.Returned.{refusedWith, acceptedWith, roomFor, putInto, returnedBy, leftBy}
 use Rattle.framing.specs.declared.returned.Returned.{Returned}
-use Rattle.plan_table.specs.Table.{tagOf}
+use Rattle.plan_table.specs.Table.{tagOf, sixOrSeven}
+use Rattle.plan_values.specs.Values.{priorityFlitsAt, platformLength}
 use Rattle.plan_checks.specs.Checks.{headerAt, taggedAt, frameAt, clashAt, tailAt, restAt}
 use Rattle.plan.specs.Records.{fieldsFrom, _then_, bodyAt, recordAt}
 use Rattle.plan.specs.Reading.{accepted, refused, after, records, readPlan}
-use Rattle.plan.specs.PlanP.{P}
+use Rattle.plan.specs.PlanP.{P, withSeventh}
 use Rattle.plan_values.specs.declared.Platform.{Platform}
 use Rattle.plan_values.specs.declared.Flow.{Flow}
 use Rattle.writer_bytes.specs.PlanBytes.{platformBytes, flowBytes, planBytes}
 use Rattle.writer.specs.Written.{returned, left}
 
--- P's platform, with other flits of a buffer or another method.
+-- P's platform, with other flits of a buffer or another method, and so many priority flits.
+prioritised : ℕ → ℕ → ℕ → Platform
+prioritised buffer method flits = record { columns = 6; rows = 1; link = 1; routing = 0; buffer = buffer; method = method; «priority_flits» = flits }
+
 platform : ℕ → ℕ → Platform
-platform buffer method = record { columns = 6; rows = 1; link = 1; routing = 0; buffer = buffer; method = method }
+platform buffer method = prioritised buffer method 0
 
 -- P's flows, with other values here and there.
 first : ℕ → Flow
@@ -36,12 +40,17 @@ flows = first 200 ∷ second 3 5 ∷ third 3 ∷ []
 
 -- P's bytes are what is written of its numbers, and method 0 is written as 0.
 P-written : planBytes (platform 10 3) flows ≡ P
-unfolding platformBytes flowBytes each platform first second third flows
+unfolding sixOrSeven platformLength _when_else_ platformBytes flowBytes each prioritised platform first second third flows
 P-written = refl
 
 method-0-stays : planBytes (platform 10 0) flows ≡ set P 8 0
-unfolding platformBytes flowBytes each platform first second third flows
+unfolding sixOrSeven platformLength _when_else_ platformBytes flowBytes each prioritised platform first second third flows
 method-0-stays = refl
+
+-- With priority flits its record has seven bytes; "A six-byte record means zero, and the writer uses it then".
+P-with-seventh : planBytes (prioritised 10 3 2) flows ≡ withSeventh 2
+unfolding sixOrSeven platformLength _when_else_ platformBytes flowBytes each prioritised platform first second third flows
+P-with-seventh = refl
 
 -- Each fault at the place of the bytes as they would have been written; of two the first record's, and within a record the first in order.
 answers : List Returned
@@ -57,6 +66,13 @@ answers =
     ∷ returned (platform 10 3) (first 200 ∷ second 2 5 ∷ []) 81
     ∷ returned (platform 10 3) (first 200 ∷ second 3 5 ∷ third 2 ∷ []) 81
     ∷ returned (platform 10 3) [] 12
+    ∷ returned (prioritised 10 3 8) flows 82
+    ∷ returned (prioritised 10 3 8) flows 81  -- a byte too few
+    ∷ returned (prioritised 10 3 9) flows 81  -- "a seventh byte .. above 8 gets 26 at its place", before the buffer's length
+    ∷ returned (prioritised 10 3 255) flows 82
+    ∷ returned (prioritised 10 4 9) flows 82  -- 25 before 26
+    ∷ returned (prioritised 10 3 1) (first 200 ∷ second 2 5 ∷ []) 82  -- every later place is moved by one
+    ∷ returned (prioritised 10 3 1) [] 13
     ∷ []
 
 answers-are :
@@ -72,15 +88,22 @@ answers-are :
     ∷ refusedWith 7 35
     ∷ refusedWith 8 60
     ∷ acceptedWith 12
+    ∷ acceptedWith 82
+    ∷ refusedWith 11 0
+    ∷ refusedWith 26 9
+    ∷ refusedWith 26 9
+    ∷ refusedWith 25 8
+    ∷ refusedWith 7 36
+    ∷ acceptedWith 13
     ∷ []
-unfolding tagOf headerAt taggedAt frameAt fieldsFrom clashAt tailAt restAt _then_ bodyAt recordAt accepted refused after records readPlan _when_else_ platformBytes flowBytes each returnedBy roomFor platform first second third flows answers
+unfolding tagOf sixOrSeven priorityFlitsAt platformLength headerAt taggedAt frameAt fieldsFrom clashAt tailAt restAt _then_ bodyAt recordAt accepted refused after records readPlan _when_else_ platformBytes flowBytes each returnedBy roomFor prioritised platform first second third flows answers
 answers-are = refl
 
 -- A longer buffer keeps its further bytes, and a refusal leaves all of them.
 lefts : left (platform 10 3) [] (replicate 14 0xA5) ≡ 0x01 ∷ 0 ∷ 6 ∷ 6 ∷ 1 ∷ 1 ∷ 0 ∷ 10 ∷ 3 ∷ 0x7F ∷ 0 ∷ 0 ∷ 0xA5 ∷ 0xA5 ∷ []
-unfolding tagOf headerAt taggedAt frameAt fieldsFrom clashAt tailAt restAt _then_ bodyAt recordAt accepted refused after records readPlan _when_else_ platformBytes flowBytes each leftBy putInto platform
+unfolding tagOf sixOrSeven priorityFlitsAt platformLength headerAt taggedAt frameAt fieldsFrom clashAt tailAt restAt _then_ bodyAt recordAt accepted refused after records readPlan _when_else_ platformBytes flowBytes each leftBy putInto prioritised platform
 lefts = refl
 
 left-alone : left (platform 10 4) [] (replicate 14 0xA5) ≡ replicate 14 0xA5
-unfolding tagOf headerAt taggedAt frameAt fieldsFrom clashAt tailAt restAt _then_ bodyAt recordAt accepted refused after records readPlan _when_else_ platformBytes flowBytes each leftBy putInto platform
+unfolding tagOf sixOrSeven priorityFlitsAt platformLength headerAt taggedAt frameAt fieldsFrom clashAt tailAt restAt _then_ bodyAt recordAt accepted refused after records readPlan _when_else_ platformBytes flowBytes each leftBy putInto prioritised platform
 left-alone = refl

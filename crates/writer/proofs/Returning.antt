@@ -1,5 +1,5 @@
 -- `write` returns and leaves what is defined, by what the reader said of the first 64 flows at most, and by the count.
-use Prim.Native.Nat.{ℕ, suc, _+_, _-_, _*_, _≤_, _<_, min}
+use Prim.Native.Nat.{ℕ, suc, _-_, _≤_, _<_, min}
 use mathlib.Core.Path.{_≡_, refl, sym, ap, _∙_}
 use mathlib.Core.Logic.{_≢_}
 use mathlib.Core.List.{List, _∷_, _++_, append-nil}
@@ -12,14 +12,15 @@ use Rattle.framing.specs.Returned.{refusedWith, acceptedWith}
 use Rattle.framing.specs.declared.returned.Returned.{Returned}
 use Rattle.framing.proofs.Rooms.{handed-on, too-short, room-enough}
 use Rattle.plan.specs.Reading.{accepted, refused, readPlan}
-use Rattle.plan_values.specs.Values.{blankFlow}
+use Rattle.plan.specs.Layout.{place}
+use Rattle.plan_values.specs.Values.{platformLength, blankFlow}
 use Rattle.plan_values.specs.declared.Flow.{Flow}
 use Rattle.plan_values.specs.declared.Platform.{Platform}
 use Rattle.plan.specs.declared.Reading.{Reading}
 use Rattle.framing.specs.declared.returned.Outcome.the-variants.{Accepted, Refused}
 use Rattle.plan.proofs.Answered.{Lawful, accepts, refuses, answered}
 use Rattle.plan.proofs.Numbered.{never}
-use Rattle.writer_bytes.specs.PlanBytes.{planBytes}
+use Rattle.writer_bytes.specs.PlanBytes.{planBytes, planLength}
 use Rattle.writer.specs.Fits.{FitsEach}
 use Rattle.writer.specs.Written.{listed, returned, left, GivenBack}
 use Rattle.writer_bytes.proofs.Putting.{length-plan}
@@ -52,12 +53,12 @@ module _ (flows : List Flow) {count : ℕ} where
       λ i. all i ++ replicate (m i) blankFlow
 
 -- The plan of the first `kept` flows was put in front of the trial, and `r` is what was read there.
-module _ (p : Platform) (flows : List Flow) (count : ℕ) (held : List ℕ) (long : length flows ≡ 64) {kept : ℕ} (k : kept ≡ min count 64) {trial : List ℕ} (rest : List ℕ) (t : trial ≡ planBytes p (take kept flows) ++ rest) {r : Reading} (e : r ≡ readPlan (take (12 + 23 * kept) trial)) where
-  size : length (planBytes p (take kept flows)) ≡ 12 + 23 * kept
-  size = length-plan p (take kept flows) ∙ ap (λ (n : ℕ). 12 + 23 * n) (length-take-le kept flows (omega (arith, k, min-le-right count 64)))
+module _ (p : Platform) (flows : List Flow) (count : ℕ) (held : List ℕ) (long : length flows ≡ 64) {kept : ℕ} (k : kept ≡ min count 64) {trial : List ℕ} (rest : List ℕ) (t : trial ≡ planBytes p (take kept flows) ++ rest) {r : Reading} {size : ℕ} (z : size ≡ planLength p kept) (e : r ≡ readPlan (take size trial)) where
+  own-size : length (planBytes p (take kept flows)) ≡ size
+  own-size = length-plan p (take kept flows) ∙ ap (planLength p) (length-take-le kept flows (omega (arith, k, min-le-right count 64))) ∙ sym z
 
   bytes-read : r ≡ readPlan (planBytes p (take kept flows))
-  bytes-read = e ∙ ap (λ (x : List ℕ). readPlan (take (12 + 23 * kept) x)) t ∙ ap readPlan (take-at (planBytes p (take kept flows)) rest (12 + 23 * kept) size)
+  bytes-read = e ∙ ap (λ (x : List ℕ). readPlan (take size x)) t ∙ ap readPlan (take-at (planBytes p (take kept flows)) rest size own-size)
 
   -- A refusal by the bytes as they would have been written.
   refused-written : {number place : ℕ} → readPlan (planBytes p (listed flows count)) .outcome ≡ Refused number place → Written p (listed flows count) held (refusedWith number place) held
@@ -76,10 +77,10 @@ module _ (p : Platform) (flows : List Flow) (count : ℕ) (held : List ℕ) (lon
     kept-outcome : r .outcome ≡ readPlan (planBytes p (listed flows count)) .outcome
     kept-outcome = ap (λ (x : Reading). x .outcome) (bytes-read ∙ ap readPlan all-kept)
 
-    needed : length (planBytes p (listed flows count)) ≡ 12 + 23 * kept
-    needed = ap length (sym all-kept) ∙ size
+    needed : length (planBytes p (listed flows count)) ≡ size
+    needed = ap length (sym all-kept) ∙ own-size
 
-    pub written-short : r .outcome ≡ Accepted → length held < 12 + 23 * kept → Written p (listed flows count) held (refusedWith 11 0) held
+    pub written-short : r .outcome ≡ Accepted → length held < size → Written p (listed flows count) held (refusedWith 11 0) held
     written-short o l =
         let (number, all) = too-short (length (planBytes p (listed flows count))) (planBytes p (listed flows count)) held (sym kept-outcome ∙ o) (omega (arith, needed)) in
         (number, all, record { same = λ e. absurd (omega arith) })
@@ -92,15 +93,16 @@ module _ (p : Platform) (flows : List Flow) (count : ℕ) (held : List ℕ) (lon
     kept-back : FitsEach flows → r .outcome ≡ Accepted → readPlan (planBytes p (take kept flows)) ≡ accepted p (take kept flows)
     kept-back w o = given-back p (take kept flows) (kept-fit w) (ap (λ (x : Reading). x .outcome) (sym bytes-read) ∙ o)
 
-    back : FitsEach flows → r .outcome ≡ Accepted → {is : List ℕ} → is ≡ planBytes p (take kept flows) ++ drop (12 + 23 * kept) held → readPlan (take (12 + 23 * kept) is) ≡ accepted p (listed flows count)
+    back : FitsEach flows → r .outcome ≡ Accepted → {is : List ℕ} → is ≡ planBytes p (take kept flows) ++ drop size held → readPlan (take size is) ≡ accepted p (listed flows count)
     back fit o w =
-        ap (λ (x : List ℕ). readPlan (take (12 + 23 * kept) x)) w
-        ∙ ap readPlan (take-at (planBytes p (take kept flows)) (drop (12 + 23 * kept) held) (12 + 23 * kept) size)
+        ap (λ (x : List ℕ). readPlan (take size x)) w
+        ∙ ap readPlan (take-at (planBytes p (take kept flows)) (drop size held) size own-size)
         ∙ kept-back fit o
         ∙ ap (accepted p) kept-all
 
-    pub written-whole : FitsEach flows → r .outcome ≡ Accepted → 12 + 23 * kept ≤ length held → {is : List ℕ} → is ≡ planBytes p (take kept flows) ++ drop (12 + 23 * kept) held → Written p (listed flows count) held (acceptedWith (12 + 23 * kept)) is
-    written-whole fit o l {is} w =
+    pub written-whole : FitsEach flows → r .outcome ≡ Accepted → size ≤ length held → {is : List ℕ} → is ≡ planBytes p (take kept flows) ++ drop (planLength p kept) held → Written p (listed flows count) held (acceptedWith size) is
+    written-whole fit o l {is} put =
+        let w : is ≡ planBytes p (take kept flows) ++ drop size held = put ∙ ap (λ (n : ℕ). planBytes p (take kept flows) ++ drop n held) (sym z) in
         let (number, all) = room-enough (length (planBytes p (listed flows count))) (planBytes p (listed flows count)) held (sym kept-outcome ∙ o) (omega (arith, needed)) in
         (ap acceptedWith (sym needed) ∙ number, w ∙ (λ i. all-kept i ++ drop (sym needed i) held) ∙ all, record { same = λ e. back fit o w })
 
@@ -115,8 +117,12 @@ module _ (p : Platform) (flows : List Flow) (count : ℕ) (held : List ℕ) (lon
     of-all : readPlan (planBytes p (listed flows count)) .outcome ≡ readPlan (planBytes p (flows ++ blankFlow ∷ replicate (count - 65) blankFlow)) .outcome
     of-all = ap (λ (fs : List Flow). readPlan (planBytes p fs) .outcome) (listed-many flows long h)
 
-    pub written-longer : r .outcome ≡ Accepted → Written p (listed flows count) held (refusedWith 6 1481) held
-    written-longer o = refused-written (of-all ∙ sixty-fifth p flows long blankFlow _ (of-64 ∙ o))
+    -- The 65th would stand where the end record of the 64 does.
+    pub written-longer : r .outcome ≡ Accepted → Written p (listed flows count) held (refusedWith 6 (size - 3)) held
+    written-longer o =
+        let n : kept ≡ 64 = k ∙ min-eq-right (let l : 64 ≤ count = omega arith in l) in
+        let q : place (platformLength p) 64 ≡ size - 3 = omega (arith, z, n) in
+        refused-written (of-all ∙ sixty-fifth p flows long blankFlow _ (of-64 ∙ o) ∙ ap (Refused 6) q)
 
     refused-longer : {number place : ℕ} → r .outcome ≡ Refused number place → Written p (listed flows count) held (refusedWith number place) held
     refused-longer o = refused-written (of-all ∙ refused-alike p flows long blankFlow _ (of-64 ∙ o))

@@ -1,6 +1,6 @@
 -- What the depot relies on, of any platform, any flows and any buffer. `write` promises to return `returned p fs (length held)`
 -- and to leave `left p fs held` in the buffer that held `held`, and that reading gives back `p` and `fs` (`GivenBack`).
-use Prim.Native.Nat.{ℕ, _+_, _*_, _≤_, _<_}
+use Prim.Native.Nat.{ℕ, _≤_, _<_}
 use mathlib.Core.Path.{_≡_, refl, sym, ap, _∙_}
 use mathlib.Core.Logic.{_≢_}
 use mathlib.Core.List.{List, _++_}
@@ -19,7 +19,7 @@ use Rattle.plan_values.specs.declared.Flow.{Flow}
 use Rattle.framing.specs.declared.returned.Outcome.{Outcome}
 use Rattle.framing.specs.declared.returned.Outcome.the-variants.{Accepted, Refused}
 use Rattle.plan.specs.declared.Reading.{Reading}
-use Rattle.writer_bytes.specs.PlanBytes.{planBytes}
+use Rattle.writer_bytes.specs.PlanBytes.{planBytes, planLength}
 use Rattle.writer.specs.Written.{returned, left, GivenBack}
 use Rattle.writer_bytes.proofs.Putting.{length-plan}
 use Rattle.writer.proofs.ReadBack.{written-exactly}
@@ -68,17 +68,17 @@ module _ (p : Platform) (fs : List Flow) (held : List ℕ) where
       rw same (sym a, sym b)
 
   -- A plan is written exactly if its values are allowed and the buffer has room for it.
-  pub legal-written : Legal p fs → 12 + 23 * length fs ≤ length held → returned p fs (length held) ≡ acceptedWith (12 + 23 * length fs)
+  pub legal-written : Legal p fs → planLength p (length fs) ≤ length held → returned p fs (length held) ≡ acceptedWith (planLength p (length fs))
   unfolding accepted
   legal-written w h =
       let l = length-plan p fs in
       sym (room-enough (length bytes) bytes held (ap (λ (r : Reading). r .outcome) (written-exactly p fs .1 w)) (omega arith) .0) ∙ ap acceptedWith l
 
   -- The other way by the promise of what is read back: other values could have the same bytes, if they were too large for their fields.
-  pub written-legal : GivenBack p fs (returned p fs (length held)) (left p fs held) → returned p fs (length held) .number ≡ 0 → Legal p fs × (12 + 23 * length fs ≤ length held)
+  pub written-legal : GivenBack p fs (returned p fs (length held)) (left p fs held) → returned p fs (length held) .number ≡ 0 → Legal p fs × (planLength p (length fs) ≤ length held)
   written-legal = go came
     where
-      go : {r : Returned} {is : List ℕ} → Came r is → GivenBack p fs r is → r .number ≡ 0 → Legal p fs × (12 + 23 * length fs ≤ length held)
+      go : {r : Returned} {is : List ℕ} → Came r is → GivenBack p fs r is → r .number ≡ 0 → Legal p fs × (planLength p (length fs) ≤ length held)
       go (sent-back number place h) b e = absurd (omega arith)
       go no-room b e = absurd (omega arith)
       go (whole o h) b e =

@@ -4,10 +4,9 @@ use mathlib.Core.List.{List, [], _∷_}
 use lib.ListN.{length}
 use Rattle.framing_numbers.specs.Numbers.{bytesOf}
 use Rattle.plan.specs.Legal.{flow}
-use Rattle.plan_table.specs.Table.{fieldsOf, width}
+use Rattle.plan_table.specs.Table.{flowFields, width}
 use Rattle.plan_values.specs.declared.Flow.{Flow}
 use Rattle.plan_table.specs.declared.Field.{Field}
-use Rattle.plan_table.specs.declared.Kind.the-variants.{FlowRecord}
 use Rattle.writer_bytes.specs.PlanBytes.{flowValues}
 
 -- Each value can be held by the bytes of its field.
@@ -18,4 +17,4 @@ Fits (f ∷ fields) (v ∷ values) = (v < 256 ^ bytesOf (width f)) × Fits field
 
 -- Those of every flow. A platform's values, a byte each, are written as they stand and read back whatever they are.
 abbrev pub FitsEach : List Flow → Type 0
-FitsEach fs = (k : ℕ) → k < length fs → Fits (fieldsOf FlowRecord) (flowValues (flow fs k))
+FitsEach fs = (k : ℕ) → k < length fs → Fits flowFields (flowValues (flow fs k))

@@ -9,6 +9,7 @@ use plan::Plan;
 use plan::read;
 use plan_values::Flows;
 use plan_values::Platform;
+use writer_bytes::plan_length;
 use writer_bytes::put_plan;
 
 fn at_most_64(count: usize) -> usize
@@ -26,8 +27,8 @@ pub fn write(platform: Platform, flows: Flows, count: usize, buffer: &mut [u8]) 
     ensures { λ r. ⌜ (r ≡ returned platform (listed flows count) (length (now (buffer .entry)))) × (now (buffer .exit) ≡ left platform (listed flows count) (now (buffer .entry))) × GivenBack platform (listed flows count) r (now (buffer .exit)) ⌝ }
 {
     let kept = at_most_64(count);
-    let size = 12 + 23 * kept;
-    let mut trial: [u8; 1484] = [0; 1484];
+    let size = plan_length(platform, kept);
+    let mut trial: [u8; 1485] = [0; 1485];
     put_plan(&mut trial, platform, flows, kept);
     let reading = read(&trial[..size]);
     let outcome = reading.outcome;
@@ -40,7 +41,7 @@ pub fn write(platform: Platform, flows: Flows, count: usize, buffer: &mut [u8]) 
     if 64 < count {
         return Returned {
             number: 6,
-            value: 1481,
+            value: size - 3,
         };
     }
     if buffer.len() < size {

@@ -4,11 +4,10 @@ use native.Mathlib.Omega.{arith}
 use mathlib.Core.Path.{sym, ap, _∙_}
 use mathlib.Core.Logic.{⊎-elim}
 use lib.ListN.{length, replicate}
-use Rattle.plan_table.specs.Table.{bodyLength}
 use Rattle.plan.proofs.Order.{framed, flow-room}
 use Rattle.plan.proofs.Columns.{column-taken}
-use Rattle.plan.proofs.Turns.{Sofar, sofar-none, frame-refuses, Inside, inside-none, field-refuses, inside-more, rest-refuses, end-accepted, platform-taken, flow-taken}
-use Rattle.plan.proofs.Scan.{field-inside, scanned-place}
+use Rattle.plan.proofs.Turns.{Sofar, sofar-none, frame-refuses, Inside, platform-inside, flow-inside, inside-none, field-refuses, inside-more, rest-refuses, end-accepted, platform-taken, flow-taken}
+use Rattle.plan.proofs.Scan.{field-within, field-inside, scanned-place}
 use borrow.Author.Needs.{needs}
 use Rattle.plan.proofs.read.Statement.{statement}
 use Rattle.plan.proofs.read.Tie as tie
@@ -61,14 +60,17 @@ enum-known-kind c = search needs
 limits-at-requires : tie.Need-limits-at-requires Inv-loop μ-loop Inv-records μ-records
 limits-at-requires c κs = framed _ _ _ (sym (c .before .before .before .check-frame .ensures) ∙ c .before .kind .given .1) .whole
 
+length-at-requires : tie.Need-length-at-requires Inv-loop μ-loop Inv-records μ-records
+length-at-requires c κs = omega (arith, framed _ _ _ (sym (c .before .before .before .before .check-frame .ensures) ∙ c .before .before .kind .given .1) .whole)
+
 field-count-requires : tie.Need-field-count-requires Inv-loop μ-loop Inv-records μ-records
 field-count-requires c κs = search needs
 
 loop-holds : tie.Need-loop-holds Inv-loop μ-loop Inv-records μ-records
-loop-holds c = inside-none (c .before .before .before .before .before .before .records .inv) (sym (c .before .before .before .before .before .check-frame .ensures) ∙ c .before .before .before .kind .given .1) (c .before .limits-at .ensures) (c .field-count .ensures)
+loop-holds c = inside-none (c .before .before .before .before .before .before .before .records .inv) (sym (c .before .before .before .before .before .before .check-frame .ensures) ∙ c .before .before .before .before .kind .given .1) (c .before .before .limits-at .ensures) (c .before .length-at .ensures) (c .field-count .ensures)
 
 field-of-requires : tie.Need-field-of-requires Inv-loop μ-loop Inv-records μ-records
-field-of-requires c κs = search needs
+field-of-requires c κs = omega (arith, field-within (c .before .loop .inv .scan) (c .loop-test .taken))
 
 add-number-at : tie.Need-add-number-at Inv-loop μ-loop Inv-records μ-records
 add-number-at c = omega (arith, field-inside (c .before .before .loop .inv .scan) (c .before .loop-test .taken) (c .field-of .ensures))
@@ -83,7 +85,7 @@ refusal-of-requires : tie.Need-refusal-of-requires Inv-loop μ-loop Inv-records 
 refusal-of-requires c κs = search needs
 
 add-refuse : tie.Need-add-refuse Inv-loop μ-loop Inv-records μ-records
-add-refuse c = omega (arith, c .before .before .before .before .before .before .before .before .before .before .before .before .before .before .before .before .before .good, field-inside (c .before .before .before .before .before .before .loop .inv .scan) (c .before .before .before .before .before .loop-test .taken) (c .before .before .before .before .field-of .ensures))
+add-refuse c = omega (arith, c .before .before .before .before .before .before .before .before .before .before .before .before .before .before .before .before .before .before .good, field-inside (c .before .before .before .before .before .before .loop .inv .scan) (c .before .before .before .before .before .loop-test .taken) (c .before .before .before .before .field-of .ensures))
 
 refuse-requires-2 : tie.Need-refuse-requires-2 Inv-loop μ-loop Inv-records μ-records
 refuse-requires-2 c κs = search needs
@@ -92,7 +94,7 @@ bytes-of-requires : tie.Need-bytes-of-requires Inv-loop μ-loop Inv-records μ-r
 bytes-of-requires c κs = search needs
 
 add-offset : tie.Need-add-offset Inv-loop μ-loop Inv-records μ-records
-add-offset c = omega (arith, c .before .before .before .before .before .before .before .before .before .before .before .before .before .before .before .before .before .good, c .bytes-of .ensures, field-inside (c .before .before .before .before .before .before .loop .inv .scan) (c .before .before .before .before .before .loop-test .taken) (c .before .before .before .before .field-of .ensures))
+add-offset c = omega (arith, c .before .before .before .before .before .before .before .before .before .before .before .before .before .before .before .before .before .before .good, c .bytes-of .ensures, field-inside (c .before .before .before .before .before .before .loop .inv .scan) (c .before .before .before .before .before .loop-test .taken) (c .before .before .before .before .field-of .ensures))
 
 add-k : tie.Need-add-k Inv-loop μ-loop Inv-records μ-records
 add-k c = search needs
@@ -131,13 +133,13 @@ enum-told-2 : tie.Need-enum-told-2 Inv-loop μ-loop Inv-records μ-records
 enum-told-2 c = search needs
 
 platform-at-requires : tie.Need-platform-at-requires Inv-loop μ-loop Inv-records μ-records
-platform-at-requires c κs = omega (arith, c .before .before .before .before .before .before .before .before .loop .inv .scan .whole, ap bodyLength (c .enum-told2 .given .1))
+platform-at-requires c κs = platform-inside (c .before .before .before .before .before .before .before .before .loop .inv) (c .enum-told2 .given .1)
 
 enum-told-3 : tie.Need-enum-told-3 Inv-loop μ-loop Inv-records μ-records
 enum-told-3 c = search needs
 
 flow-at-requires : tie.Need-flow-at-requires Inv-loop μ-loop Inv-records μ-records
-flow-at-requires c κs = omega (arith, c .before .before .before .before .before .before .before .before .loop .inv .scan .whole, ap bodyLength (c .enum-told3 .given .1))
+flow-at-requires c κs = flow-inside (c .before .before .before .before .before .before .before .before .loop .inv) (c .enum-told3 .given .1)
 
 mul-flows : tie.Need-mul-flows Inv-loop μ-loop Inv-records μ-records
 mul-flows c = omega (arith, c .before .before .before .before .before .before .before .before .before .loop .inv .sofar .few)
@@ -195,6 +197,7 @@ read-spec =
     refuse-requires
     enum-known-kind
     limits-at-requires
+    length-at-requires
     field-count-requires
     loop-holds
     field-of-requires

@@ -1,7 +1,5 @@
 -- `plan_checks::check_rest` meets its contract: each arm is a case of the record.
-use native.Mathlib.Omega.{arith}
-use mathlib.Core.Path.{ap}
-use Rattle.plan_table.specs.Table.{bodyLength}
+use Rattle.plan_checks.proofs.Fits.{flow-whole}
 use Rattle.plan_checks.proofs.Rests.{rests}
 use borrow.Author.Needs.{needs}
 use Rattle.plan_checks.proofs.check_rest.Statement.{statement}
@@ -14,7 +12,7 @@ enum-told-2 : tie.Need-enum-told-2
 enum-told-2 c = search needs
 
 flow-at-requires : tie.Need-flow-at-requires
-flow-at-requires c κs = omega (arith, ap bodyLength (c .enum-told2 .given .1))
+flow-at-requires c κs = search flow-whole
 
 check-clash-requires : tie.Need-check-clash-requires
 check-clash-requires c κs = search needs

@@ -1,7 +1,5 @@
 -- `plan_checks::period_at` meets its contract: each arm is a case of the record.
-use native.Mathlib.Omega.{arith}
-use mathlib.Core.Path.{ap}
-use Rattle.plan_table.specs.Table.{bodyLength}
+use Rattle.plan_checks.proofs.Fits.{period-whole}
 use borrow.Author.Needs.{needs}
 use Rattle.plan_checks.proofs.period_at.Statement.{statement}
 use Rattle.plan_checks.proofs.period_at.Tie as tie
@@ -16,7 +14,7 @@ add-four-at : tie.Need-add-four-at
 add-four-at c = search needs
 
 four-at-requires : tie.Need-four-at-requires
-four-at-requires c κs = omega (arith, ap bodyLength (c .enum-told2 .given .1))
+four-at-requires c κs = search period-whole
 
 enum-told-3 : tie.Need-enum-told-3
 enum-told-3 c = search needs

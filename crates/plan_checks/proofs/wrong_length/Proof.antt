@@ -1,8 +1,4 @@
 -- `plan_checks::wrong_length` meets its contract: the two lengths are those that the functions give.
-use Prim.Native.Nat.{ℕ}
-use mathlib.Core.Bool.{not}
-use mathlib.Core.Path.{ap₂}
-use lib.Dec.{eqb}
 use borrow.Author.Needs.{needs}
 use Rattle.plan_checks.proofs.wrong_length.Statement.{statement}
 use Rattle.plan_checks.proofs.wrong_length.Tie as tie
@@ -14,7 +10,7 @@ body-length-requires : tie.Need-body-length-requires
 body-length-requires c κs = search needs
 
 returns : tie.Need-returns
-returns c = ap₂ (λ (l b : ℕ). not (eqb l b)) (c .before .length-at .ensures) (c .body-length .ensures)
+returns c = rw (c .body-length .ensures, c .before .length-at .ensures)
 
 pub wrong-length-spec : {M : Type 1} → statement M
 wrong-length-spec = tie.close (tie.spec length-at-requires body-length-requires returns)

@@ -43,8 +43,11 @@ returns-13 : tie.Need-returns-13
 returns-13 c = line-of (c .match .keys13)
 
 returns-14 : tie.Need-returns-14
-returns-14 c = last-line (c .before .pre) (c .match .rest)
+returns-14 c = line-of (c .match .keys14)
+
+returns-15 : tie.Need-returns-15
+returns-15 c = last-line (c .before .pre) (c .match .rest)
 
 pub field-at-spec : {M : Type 1} → statement M
 field-at-spec =
-    tie.close (tie.spec returns returns-2 returns-3 returns-4 returns-5 returns-6 returns-7 returns-8 returns-9 returns-10 returns-11 returns-12 returns-13 returns-14)
+    tie.close (tie.spec returns returns-2 returns-3 returns-4 returns-5 returns-6 returns-7 returns-8 returns-9 returns-10 returns-11 returns-12 returns-13 returns-14 returns-15)

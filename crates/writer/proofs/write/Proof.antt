@@ -10,11 +10,8 @@ use Rattle.writer.proofs.write.Tie as tie
 at-most-64-requires : tie.Need-at-most-64-requires
 at-most-64-requires c κs = search needs
 
-mul-size : tie.Need-mul-size
-mul-size c = search needs
-
-add-size : tie.Need-add-size
-add-size c = search needs
+plan-length-requires : tie.Need-plan-length-requires
+plan-length-requires c κs = search needs
 
 slice-aggregate-put-plan : tie.Need-slice-aggregate-put-plan
 slice-aggregate-put-plan c = search needs
@@ -35,16 +32,19 @@ enum-known-outcome : tie.Need-enum-known-outcome
 enum-known-outcome c = search needs
 
 returns : tie.Need-returns
-returns c = written-refused (c .before .before .before .before .before .before .before .before .before .before .args .platform) (c .before .before .before .before .before .before .before .before .before .before .args .flows) (c .before .before .before .before .before .before .before .before .before .before .args .count) _ (search needs) (c .before .before .before .before .before .before .before .before .at-most-64 .ensures) _ (c .before .before .before .before .before .before .put-plan .ensures) (c .before .before .before .read .ensures) (c .before .outcome .given .1)
+returns c = written-refused (c .before .before .before .before .before .before .before .before .before .before .before .args .platform) (c .before .before .before .before .before .before .before .before .before .before .before .args .flows) (c .before .before .before .before .before .before .before .before .before .before .before .args .count) _ (search needs) (c .before .before .before .before .before .before .before .before .before .at-most-64 .ensures) _ (c .before .before .before .before .before .before .put-plan .ensures) (c .before .before .before .before .before .before .before .before .plan-length .ensures .0) (c .before .before .before .read .ensures) (c .before .outcome .given .1)
 
 enum-told : tie.Need-enum-told
 enum-told c = search needs
 
+sub-t18 : tie.Need-sub-t18
+sub-t18 c = search needs
+
 returns-2 : tie.Need-returns-2
-returns-2 c = written-longer (c .before .before .before .before .before .before .before .before .before .before .args .platform) (c .before .before .before .before .before .before .before .before .before .before .args .flows) (c .before .before .before .before .before .before .before .before .before .before .args .count) _ (search needs) (c .before .before .before .before .before .before .before .before .at-most-64 .ensures) _ (c .before .before .before .before .before .before .put-plan .ensures) (c .before .before .before .read .ensures) (c .if1 .taken) (c .before .enum-told .given .1)
+returns-2 c = written-longer (c .before .before .before .before .before .before .before .before .before .before .before .args .platform) (c .before .before .before .before .before .before .before .before .before .before .before .args .flows) (c .before .before .before .before .before .before .before .before .before .before .before .args .count) _ (search needs) (c .before .before .before .before .before .before .before .before .before .at-most-64 .ensures) _ (c .before .before .before .before .before .before .put-plan .ensures) (c .before .before .before .before .before .before .before .before .plan-length .ensures .0) (c .before .before .before .read .ensures) (c .if1 .taken) (c .before .enum-told .given .1)
 
 returns-3 : tie.Need-returns-3
-returns-3 c = written-short (c .before .before .before .before .before .before .before .before .before .before .before .args .platform) (c .before .before .before .before .before .before .before .before .before .before .before .args .flows) (c .before .before .before .before .before .before .before .before .before .before .before .args .count) _ (search needs) (c .before .before .before .before .before .before .before .before .before .at-most-64 .ensures) _ (c .before .before .before .before .before .before .before .put-plan .ensures) (c .before .before .before .before .read .ensures) (c .before .if1 .left) (c .before .before .enum-told .given .1) (c .if2 .taken)
+returns-3 c = written-short (c .before .before .before .before .before .before .before .before .before .before .before .before .args .platform) (c .before .before .before .before .before .before .before .before .before .before .before .before .args .flows) (c .before .before .before .before .before .before .before .before .before .before .before .before .args .count) _ (search needs) (c .before .before .before .before .before .before .before .before .before .before .at-most-64 .ensures) _ (c .before .before .before .before .before .before .before .put-plan .ensures) (c .before .before .before .before .before .before .before .before .before .plan-length .ensures .0) (c .before .before .before .before .read .ensures) (c .before .if1 .left) (c .before .before .enum-told .given .1) (c .if2 .taken)
 
 put-plan-requires-2 : tie.Need-put-plan-requires-2
 put-plan-requires-2 c κs = search needs
@@ -53,15 +53,14 @@ same-length : tie.Need-same-length
 same-length c = search needs
 
 returns-4 : tie.Need-returns-4
-returns-4 c = written-whole (c .before .before .before .before .before .before .before .before .before .before .before .before .before .before .before .args .platform) (c .before .before .before .before .before .before .before .before .before .before .before .before .before .before .before .args .flows) (c .before .before .before .before .before .before .before .before .before .before .before .before .before .before .before .args .count) _ (search needs) (c .before .before .before .before .before .before .before .before .before .before .before .before .before .at-most-64 .ensures) _ (c .before .before .before .before .before .before .before .before .before .before .before .put-plan .ensures) (c .before .before .before .before .before .before .before .before .read .ensures) (c .before .before .before .before .before .if1 .left) (flows-typed (c .before .before .before .before .before .before .before .before .before .before .before .before .before .before .before .args .flows) (c .before .before .before .before .before .before .before .before .before .before .before .before .before .before .before .good .1 .0 .0) (c .before .before .before .before .before .before .before .before .before .before .before .before .before .before .before .good .1 .0 .1 .1)) (c .before .before .before .before .before .before .enum-told .given .1) (c .before .before .before .before .if2 .left) (c .before .before .put-plan2 .ensures)
+returns-4 c = written-whole (c .before .before .before .before .before .before .before .before .before .before .before .before .before .before .before .before .args .platform) (c .before .before .before .before .before .before .before .before .before .before .before .before .before .before .before .before .args .flows) (c .before .before .before .before .before .before .before .before .before .before .before .before .before .before .before .before .args .count) _ (search needs) (c .before .before .before .before .before .before .before .before .before .before .before .before .before .before .at-most-64 .ensures) _ (c .before .before .before .before .before .before .before .before .before .before .before .put-plan .ensures) (c .before .before .before .before .before .before .before .before .before .before .before .before .before .plan-length .ensures .0) (c .before .before .before .before .before .before .before .before .read .ensures) (c .before .before .before .before .before .if1 .left) (flows-typed (c .before .before .before .before .before .before .before .before .before .before .before .before .before .before .before .before .args .flows) (c .before .before .before .before .before .before .before .before .before .before .before .before .before .before .before .before .good .1 .0 .0) (c .before .before .before .before .before .before .before .before .before .before .before .before .before .before .before .before .good .1 .0 .1 .1)) (c .before .before .before .before .before .before .enum-told .given .1) (c .before .before .before .before .if2 .left) (c .before .before .put-plan2 .ensures)
 
 pub write-spec : {M : Type 1} → statement M
 write-spec =
     tie.close
     (tie.spec
     at-most-64-requires
-    mul-size
-    add-size
+    plan-length-requires
     slice-aggregate-put-plan
     put-plan-requires
     array-share-prefix-trial
@@ -70,6 +69,7 @@ write-spec =
     enum-known-outcome
     returns
     enum-told
+    sub-t18
     returns-2
     returns-3
     put-plan-requires-2

@@ -1,22 +1,24 @@
 -- `writer_bytes::put_plan` meets its contract.
 use Prim.Native.Nat.{ℕ, _-_}
-use mathlib.Core.Path.{ap, _∙_}
-use mathlib.Core.List.{List, _++_}
-use lib.ListN.{drop}
+use mathlib.Core.Path.{refl, ap, _∙_}
+use lib.ListN.{take}
 use native.Mathlib.Omega.{arith}
 use borrow.Author.Needs.{needs}
-use Rattle.writer_bytes.proofs.Putting.{Putting, putting-none, putting-more, putting-all}
+use Rattle.writer_bytes.proofs.Putting.{Putting, prefix-counted, putting-none, putting-more, putting-all}
 use Rattle.writer_bytes.proofs.put_plan.Statement.{statement}
 use Rattle.writer_bytes.proofs.put_plan.Tie as tie
 
 abbrev Inv-loop : tie.InvT-loop
-Inv-loop out₀ count flows i₀ out i = Putting out₀ flows count out i
+Inv-loop out₀ count flows start i₀ out i = Putting start out₀ flows count out i
 
 abbrev μ-loop : tie.MeasureT-loop
-μ-loop out₀ count flows i₀ out i = count - i
+μ-loop out₀ count flows start i₀ out i = count - i
 
 platform-bytes-requires : tie.Need-platform-bytes-requires Inv-loop μ-loop
 platform-bytes-requires c κs = search needs
+
+platform-size-requires : tie.Need-platform-size-requires Inv-loop μ-loop
+platform-size-requires c κs = search needs
 
 sub-put-whole : tie.Need-sub-put-whole Inv-loop μ-loop
 sub-put-whole c = search needs
@@ -27,14 +29,17 @@ part-put-whole-start c = search needs
 part-put-whole-end : tie.Need-part-put-whole-end Inv-loop μ-loop
 part-put-whole-end c = search needs
 
+array-share-prefix-first : tie.Need-array-share-prefix-first Inv-loop μ-loop
+array-share-prefix-first c = search needs
+
 slice-aggregate-put-whole : tie.Need-slice-aggregate-put-whole Inv-loop μ-loop
-slice-aggregate-put-whole c = search needs
+slice-aggregate-put-whole c = prefix-counted _ _ (search needs)
 
 put-whole-requires : tie.Need-put-whole-requires Inv-loop μ-loop
-put-whole-requires c κs = search needs
+put-whole-requires c κs = omega (arith, prefix-counted (c .before .before .platform-size .result) (c .before .before .before .platform-bytes .result) (search needs))
 
 loop-holds : tie.Need-loop-holds Inv-loop μ-loop
-loop-holds c = putting-none _ _ _ (search needs) (omega arith)
+loop-holds c = putting-none _ _ _ _ (search needs) (omega arith)
 
 mul-at : tie.Need-mul-at Inv-loop μ-loop
 mul-at c = search needs
@@ -103,7 +108,12 @@ same-length : tie.Need-same-length Inv-loop μ-loop
 same-length c = search needs
 
 returns : tie.Need-returns Inv-loop μ-loop
-returns c = putting-all (c .before .before .before .before .before .loop .inv) (c .before .before .before .before .loop-test .left) _ _ (ap (λ (x : List ℕ). x ++ drop 9 (c .before .before .before .before .before .before .before .before .before .before .before .before .before .args .out .now)) (c .before .before .before .before .before .before .before .before .put-whole .ensures ∙ c .before .before .before .before .before .before .before .before .before .before .before .platform-bytes .ensures)) (c .before .before .put-end .ensures)
+returns c =
+    let size = c .before .before .before .before .before .before .before .before .before .before .before .platform-size in
+    let first = c .before .before .before .before .before .before .before .before .before .before .before .before .platform-bytes in
+    putting-all (c .before .before .before .before .before .loop .inv) (c .before .before .before .before .loop-test .left) _ _ (size .ensures .0) refl
+    (c .before .before .before .before .before .before .before .before .put-whole .ensures ∙ ap (λ (n : ℕ). take n (first .result)) (size .ensures .0) ∙ first .ensures)
+    (c .before .before .put-end .ensures)
 
 pub put-plan-spec : {M : Type 1} → statement M
 put-plan-spec =
@@ -112,9 +122,11 @@ put-plan-spec =
     Inv-loop
     μ-loop
     platform-bytes-requires
+    platform-size-requires
     sub-put-whole
     part-put-whole-start
     part-put-whole-end
+    array-share-prefix-first
     slice-aggregate-put-whole
     put-whole-requires
     loop-holds

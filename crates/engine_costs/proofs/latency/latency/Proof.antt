@@ -1,6 +1,6 @@
 -- `engine_costs::latency::latency` meets its contract: the parts are small, and their sum is the definition's.
 use native.Mathlib.Omega.{arith}
-use Rattle.engine_costs.proofs.Costs.{links-some, link-part, routing-part, latency-is}
+use Rattle.engine_costs.proofs.Costs.{links-some, link-small, routing-small, latency-is}
 use mathlib.Core.Path.{_∙_}
 use borrow.Author.Needs.{needs}
 use Rattle.engine_costs.proofs.latency.latency.Statement.{statement}
@@ -22,16 +22,16 @@ add-result : tie.Need-add-result
 add-result c = search needs
 
 mul-result : tie.Need-mul-result
-mul-result c = omega (arith, link-part (c .before .before .before .pre .0 .0) (c .before .before .before .pre .0 .1) (c .before .before .wide8 .ensures .0 ∙ c .before .before .before .pre .1) (c .flits-sent .ensures) (c .before .wide82 .ensures .0))
+mul-result c = omega (arith, link-small (c .before .before .before .pre .0 .0) (c .before .before .before .pre .0 .1) (c .before .before .wide8 .ensures .0 ∙ c .before .before .before .pre .1) (c .flits-sent .ensures) (c .before .wide82 .ensures .0))
 
 wide8-requires-3 : tie.Need-wide8-requires-3
 wide8-requires-3 c κs = search needs
 
 mul-result-2 : tie.Need-mul-result-2
-mul-result-2 c = omega (arith, routing-part (c .before .before .before .before .pre .0 .0) (c .before .before .before .before .pre .0 .1) (c .before .before .before .wide8 .ensures .0 ∙ c .before .before .before .before .pre .1) (c .before .flits-sent .ensures) (c .wide83 .ensures .0))
+mul-result-2 c = omega (arith, routing-small (c .before .before .before .before .pre .0 .0) (c .before .before .before .before .pre .0 .1) (c .before .before .before .wide8 .ensures .0 ∙ c .before .before .before .before .pre .1) (c .before .flits-sent .ensures) (c .wide83 .ensures .0))
 
 add-result-2 : tie.Need-add-result-2
-add-result-2 c = omega (arith, link-part (c .before .before .before .before .pre .0 .0) (c .before .before .before .before .pre .0 .1) (c .before .before .before .wide8 .ensures .0 ∙ c .before .before .before .before .pre .1) (c .before .flits-sent .ensures) (c .before .before .wide82 .ensures .0), routing-part (c .before .before .before .before .pre .0 .0) (c .before .before .before .before .pre .0 .1) (c .before .before .before .wide8 .ensures .0 ∙ c .before .before .before .before .pre .1) (c .before .flits-sent .ensures) (c .wide83 .ensures .0))
+add-result-2 c = omega (arith, link-small (c .before .before .before .before .pre .0 .0) (c .before .before .before .before .pre .0 .1) (c .before .before .before .wide8 .ensures .0 ∙ c .before .before .before .before .pre .1) (c .before .flits-sent .ensures) (c .before .before .wide82 .ensures .0), routing-small (c .before .before .before .before .pre .0 .0) (c .before .before .before .before .pre .0 .1) (c .before .before .before .wide8 .ensures .0 ∙ c .before .before .before .before .pre .1) (c .before .flits-sent .ensures) (c .wide83 .ensures .0))
 
 returns : tie.Need-returns
 returns c = latency-is (c .before .before .before .before .pre .0 .0) (c .before .before .before .before .pre .0 .1) (c .before .before .before .wide8 .ensures .0 ∙ c .before .before .before .before .pre .1) (c .before .flits-sent .ensures) (c .before .before .wide82 .ensures .0) (c .wide83 .ensures .0)
