@@ -11,6 +11,7 @@ import tempfile
 PLANS = pathlib.Path(__file__).resolve().parent.parent / "plans"
 KINDS = (".hex", ".plan", ".text")
 FLOW_2 = "the flow record that starts in line 14"
+PLATFORM = "the platform record that starts in line 7"
 
 # Slips in P.hex: what stands there, what is written in its place, the line that is told, the sentence.
 SLIPS = [
@@ -25,9 +26,15 @@ SLIPS = [
     ("003C  ", "00003C  ", 19, f"{FLOW_2} must have 23 bytes, and has 20 before this line and 24 with it"),
     ("00000000            # jitter 0\n\n# place 32", "# jitter 0\n\n# place 32", 18, f"{FLOW_2} ends here with 19 bytes, and must have 23"),
     ("003C                # flits 60\n", "\n003C                # flits 60\n", 16, f"{FLOW_2} ends here with 9 bytes, and must have 23"),
-    ("0A                  # buffer flits 10\n", "", 10, "the platform record that starts in line 7 ends here with 8 bytes, and must have 9"),
+    ("0A                  # buffer flits 10\n", "", 10, f"{PLATFORM} ends here with 8 bytes, and must have 9"),
+    ("01 0006", "01 0007", 11, f"{PLATFORM} ends here with 9 bytes, and must have 10"),
+    ("03                  # method", "03 02               # method", 11, f"{PLATFORM} must have 9 bytes, and has 8 before this line and 10 with it"),
+    ("# method 3: IBN\n", "# method 3: IBN\n02\n", 12, "the flow record that starts in line 12 ends here with 1 bytes, and must have 23"),
+    ("01 0006             # tag", "01 00\n\n06          # tag", 7, f"{PLATFORM} ends here with 2 bytes, and must have 9 or 10"),
     ("02 0014", "02 0013", 14, "the length of a flow record is 0014, not 0013"),
-    ("01 0006", "01 0600", 7, "the length of a platform record is 0006, not 0600"),
+    ("02 0014", "02 0007", 14, "the length of a flow record is 0014, not 0007"),
+    ("01 0006", "01 0600", 7, "the length of a platform record is 0006 or 0007, not 0600"),
+    ("01 0006", "01 0008", 7, "the length of a platform record is 0006 or 0007, not 0008"),
     ("02 0014", "20 0014", 14, "no record has the tag 20"),
     ("7F 0000             # tag, length 0\n", "", 35, "no end record, 7F 0000, follows"),
     ("7F 0000", "7F 0000 00", 38, "the end record that starts in line 38 must have 3 bytes, and has 0 before this line and 4 with it"),
