@@ -3,7 +3,7 @@
 #![allow(dead_code)] // a program may use one of the two
 
 // The sizes that include/lingfallow.h explains.
-pub const LONGEST_PLAN: usize = 1484;
+pub const LONGEST_PLAN: usize = 1485;
 pub const DECIDING_BYTES: usize = 2048;
 pub const LONGEST_REPLY: usize = 1027;
 pub const FLOW_RECORD: usize = 16;
@@ -24,6 +24,7 @@ pub struct Platform {
     pub routing: u8,
     pub buffer: u8,
     pub method: u8,
+    pub priority_flits: u8, // 0 for a chip that sends none
 }
 
 #[repr(C)]

@@ -9,9 +9,10 @@
 
 #include "lingfallow.h"
 
-/* A mesh of 6 x 1 with links of 1 cycle, routers of 0 and buffers of 10 flits. */
+/* A mesh of 6 x 1 with links of 1 cycle, routers of 0, buffers of 10 flits and no priority flits. */
 static const struct lingfallow_plan p = {
-    .platform = {.columns = 6, .rows = 1, .link = 1, .routing = 0, .buffer = 10, .method = LINGFALLOW_METHOD_IBN},
+    .platform = {.columns = 6, .rows = 1, .link = 1, .routing = 0, .buffer = 10, .method = LINGFALLOW_METHOD_IBN,
+                 .priority_flits = 0},
     .flows =
         {
             {.id = 2, .priority = 1, .source = 4, .destination = 5, .flits = 60,

@@ -10,8 +10,8 @@ use lingfallow::{Flow, Platform, Refusal};
 use std::io::{self, Write};
 use std::process::ExitCode;
 
-/// A mesh of 6 x 1 with links of 1 cycle, routers of 0 and buffers of 10 flits; method 3 is IBN.
-const P: Platform = Platform { columns: 6, rows: 1, link: 1, routing: 0, buffer: 10, method: 3 };
+/// A mesh of 6 x 1 with links of 1 cycle, routers of 0 and buffers of 10 flits; method 3 is IBN; no priority flits.
+const P: Platform = Platform { columns: 6, rows: 1, link: 1, routing: 0, buffer: 10, method: 3, priority_flits: 0 };
 const P_FLOWS: [Flow; 3] = [
     Flow { id: 2, priority: 1, source: 4, destination: 5, flits: 60, period: 200, deadline: 200, jitter: 0 },
     Flow { id: 3, priority: 2, source: 0, destination: 5, flits: 198, period: 4000, deadline: 4000, jitter: 0 },

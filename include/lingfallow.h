@@ -17,35 +17,37 @@ extern "C" {
 
 /* The version; CHANGELOG.md says what each one changed for a caller. */
 #define LINGFALLOW_VERSION_MAJOR 0
-#define LINGFALLOW_VERSION_MINOR 6
+#define LINGFALLOW_VERSION_MINOR 7
 #define LINGFALLOW_VERSION_PATCH 0
 
 /* Sizes in bytes, and the most flows of a plan. */
 #define LINGFALLOW_MOST_FLOWS 64
-#define LINGFALLOW_LONGEST_PLAN 1484   /* no longer plan is accepted: a platform, 64 flows and the end record */
+#define LINGFALLOW_LONGEST_PLAN 1485   /* no longer plan is accepted: a platform, 64 flows and the end record */
 #define LINGFALLOW_DECIDING_BYTES 2048 /* of any input the first 2,048 bytes decide: further ones change nothing */
 #define LINGFALLOW_LONGEST_REPLY 1027  /* a buffer of this size has room for every reply, and never meets refusal 11 */
 #define LINGFALLOW_FLOW_RECORD 16      /* a flow's record in the reply */
 
-/* The plan: a platform record, 0 to 64 flow records, then the end record 7F 00 00, then nothing: 12 + 23n bytes for n
- * flows. Numbers are unsigned, most significant byte first. The platform's record starts at 0, that of flow k, counted
- * from 0, at 9 + 23k.
+/* The plan: a platform record, 0 to 64 flow records, then the end record 7F 00 00, then nothing. Numbers are unsigned,
+ * most significant byte first. The platform's record starts at 0; with a length of 6 the record of flow k, counted from
+ * 0, starts at 9 + 23k, and a plan of n flows has 12 + 23n bytes. With a length of 7, for a chip that sends the
+ * priority in flits of its own, all behind that record stands one byte later: 10 + 23k, and 13 + 23n bytes.
  *
- *   the platform                                 a flow
- *   offset  size  meaning                        offset  size  meaning
- *        0     1  tag: 01 hex                         0     1  tag: 02 hex
- *        1     2  length of what follows: 6           1     2  length of what follows: 20
- *        3     1  columns                             3     2  id, which no other flow has
- *        4     1  rows                                5     2  priority, which no other flow has; 1 is the highest
- *        5     1  link cycles                         7     1  source: row x columns + column
- *        6     1  routing cycles                      8     1  destination, not the source
- *        7     1  buffer flits                        9     2  flits
- *        8     1  method                             11     4  period, in clock cycles
- *                                                    15     4  deadline, in clock cycles from the tick
- *                                                    19     4  jitter: cycles from the tick to the release, at most
+ *   the platform                                     a flow
+ *   offset  size  meaning                            offset  size  meaning
+ *        0     1  tag: 01 hex                             0     1  tag: 02 hex
+ *        1     2  length of what follows: 6 or 7          1     2  length of what follows: 20
+ *        3     1  columns                                 3     2  id, which no other flow has
+ *        4     1  rows                                    5     2  priority, which no other flow has; 1 is the highest
+ *        5     1  link cycles                             7     1  source: row x columns + column
+ *        6     1  routing cycles                          8     1  destination, not the source
+ *        7     1  buffer flits                            9     2  flits
+ *        8     1  method                                 11     4  period, in clock cycles
+ *        9     1  priority flits, if the length is 7     15     4  deadline, in clock cycles from the tick
+ *                                                        19     4  jitter: cycles from the tick to the release, at most
  *
  * Allowed values: from LEAST to MOST; from 0 where no LEAST stands. Source and destination are below columns x rows,
- * and a deadline is at most its period.
+ * and a deadline is at most its period. The priority flits count with each flow's own in its unloaded latency; a record
+ * of length 6 has none.
  */
 #define LINGFALLOW_LEAST_COLUMNS 1
 #define LINGFALLOW_MOST_COLUMNS 8
@@ -57,6 +59,8 @@ extern "C" {
 #define LINGFALLOW_LEAST_BUFFER_FLITS 1
 #define LINGFALLOW_MOST_BUFFER_FLITS 64
 #define LINGFALLOW_MOST_METHOD 3
+#define LINGFALLOW_LEAST_PRIORITY_FLITS 1
+#define LINGFALLOW_MOST_PRIORITY_FLITS 8
 #define LINGFALLOW_MOST_ID 65534
 #define LINGFALLOW_LEAST_PRIORITY 1
 #define LINGFALLOW_MOST_PRIORITY 65535
@@ -102,7 +106,7 @@ struct lingfallow_returned {
 /* The numbers of refusals: when each is given, and whose place in the plan's bytes is told with it. 5 is free.
  *
  * Within a record they are looked for in the order 1 (the record's first 3 bytes), 2, 4, 3, 1 (its body), 6, then field
- * by field (20 to 25, or 30 to 36, 38, 37), 9, 7, 8. The first record in fault decides; then comes 10, then 11. No
+ * by field (20 to 26, or 30 to 36, 38, 37), 9, 7, 8. The first record in fault decides; then comes 10, then 11. No
  * refusal is given otherwise.
  */
 enum lingfallow_refusal {
@@ -124,6 +128,7 @@ enum lingfallow_refusal {
     LINGFALLOW_REFUSED_ROUTING_CYCLES = 23,
     LINGFALLOW_REFUSED_BUFFER_FLITS = 24,
     LINGFALLOW_REFUSED_METHOD = 25,
+    LINGFALLOW_REFUSED_PRIORITY_FLITS = 26,
     /* .. and of a flow. */
     LINGFALLOW_REFUSED_ID = 30,
     LINGFALLOW_REFUSED_PRIORITY = 31,
@@ -164,14 +169,15 @@ struct lingfallow_returned lingfallow_analyse(const uint8_t *plan, size_t plan_l
                                               size_t reply_length);
 
 /* A plan as numbers. Each number has the width that its field has in the plan's bytes, so that none is cut; the values
- * that are allowed are those above. */
+ * that are allowed are those above, and 0 for no priority flits. */
 struct lingfallow_platform {
     uint8_t columns;
     uint8_t rows;
-    uint8_t link;    /* cycles over a link */
-    uint8_t routing; /* cycles in a router */
-    uint8_t buffer;  /* flits of a buffer */
-    uint8_t method;  /* LINGFALLOW_METHOD_SB, .. */
+    uint8_t link;           /* cycles over a link */
+    uint8_t routing;        /* cycles in a router */
+    uint8_t buffer;         /* flits of a buffer */
+    uint8_t method;         /* LINGFALLOW_METHOD_SB, .. */
+    uint8_t priority_flits; /* flits that carry the priority; 0: none, and the record has a length of 6 */
 };
 
 struct lingfallow_flow {
@@ -192,16 +198,18 @@ struct lingfallow_plan {
 };
 
 /* Writes the bytes of the plan into the length bytes at bytes: the platform record, the flows' records in their order
- * and the end record, 12 + 23n bytes for n flows, at most LINGFALLOW_LONGEST_PLAN.
+ * and the end record: for n flows 12 + 23n bytes if priority_flits is 0, else 13 + 23n, at most
+ * LINGFALLOW_LONGEST_PLAN.
  *
  * Accepted: number is 0 and value is the plan's length. The first value bytes hold the plan; every further byte of the
  * buffer holds what it held before. Read again, these bytes give the same platform and the same flows in the same
  * order: method 0 stays 0.
  *
  * Refused: number and value are those that lingfallow_analyse gives for the bytes as they would have been written (7,
- * 8, 9 or 20 to 38, at a place in those bytes); then 11 at 0, if length is below 12 + 23n. The whole buffer holds what
- * it held before. A count above 64 says that there are flows which the array has no places for: number is 6 and value
- * 1,481, the place of flow 65, unless the platform or one of the first 64 flows is in fault.
+ * 8, 9 or 20 to 38, at a place in those bytes; 26 at 9 for priority_flits above 8); then 11 at 0, if length is below
+ * the plan's. The whole buffer holds what it held before. A count above 64 says that there are flows which the array
+ * has no places for: number is 6 and value 1,481, or 1,482 with priority flits, the place of flow 65, unless the
+ * platform or one of the first 64 flows is in fault.
  *
  * It asks nothing of the numbers and nothing of the length. Of the pointer it asks that it points to length bytes that
  * may be written, and that nothing else writes to them during the call; of length 0 it may be null. The plan is passed

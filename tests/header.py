@@ -17,7 +17,10 @@ HEADER, FORMAT, RUST, BYTES, CHANGES = "include/lingfallow.h", "docs/FORMAT.md",
 FILES = (TABLE, LISTED, CHECKS, PROGRAM, REPLY, HEADER, FORMAT, RUST, BYTES, CHANGES)
 WIDTHS = {"One": 1, "Two": 2, "Four": 4}
 
-Field = collections.namedtuple("Field", "record offset width name least limit most refusal")
+# `only_if`: the length that a record with this field has, where it may have another.
+Field = collections.namedtuple("Field", "record offset width name least limit most refusal only_if")
+ARM = re.compile(r"^ *Kind::(\w+)Record => (\w+)(?:\(told\))?,$", re.M)
+EITHER = r"fn {}\(told: u16\) -> u16\n.*\n{{\n    if told == (\d+) {{\n        return (\d+);\n    }}\n    (\d+)\n}}"
 LINE = re.compile(r"=> Field\(Width::(\w+), (\d+), Limit::(\w+)(?:\(([\d_]+)\))?, (\d+)\), // (.+)$", re.M)
 
 
@@ -34,9 +37,25 @@ def only(pattern, text):
 
 # ---- the reader's table
 
+def either_of(table, function):
+    """The two lengths, the shorter first, of a function that gives the second where a record tells it, and else the first."""
+    told, given, other = map(int, only(EITHER.format(function), table))
+    if told != given or other >= told:
+        raise LookupError(f"{function} gives {given} for {told}, and else {other}")
+    return other, told
+
+
 def lengths(table):
+    """The lengths that each record may have: a number, or a function of the one it tells."""
     body = table[table.index("fn body_length"):table.index("fn field_count")]
-    return {kind: int(length) for kind, length in re.findall(r"Kind::(\w+)Record => (\d+)", body)}
+    found = {kind: (int(length),) if length.isdigit() else either_of(table, length) for kind, length in ARM.findall(body)}
+    if found.keys() != tags(table).keys():
+        raise LookupError(f"{TABLE} has the lengths of {sorted(found)}")
+    return found
+
+
+def said(values):
+    return " or ".join(map(str, values))
 
 
 def tags(table):
@@ -44,13 +63,16 @@ def tags(table):
 
 
 def fields(table):
-    """The table's lines, with the offset of each: the platform's up to its length, then a flow's up to its own."""
-    found, left = [], [("Platform", lengths(table)["Platform"]), ("Flow", lengths(table)["Flow"])]
+    """The table's lines, with the offset of each: the platform's up to its longest, then a flow's."""
+    found, left = [], [(kind, lengths(table)[kind][-1]) for kind in ("Platform", "Flow")]
     offset = 3
     for width, least, limit, most, refusal, name in LINE.findall(table):
         if offset == 3 + left[0][1]:
             left, offset = left[1:], 3
-        found.append(Field(left[0][0], offset, WIDTHS[width], name, int(least), limit, number(most or "0"), int(refusal)))
+        kind = left[0][0]
+        shortest, *longer = lengths(table)[kind]
+        only_if = longer[-1] if offset >= 3 + shortest else None
+        found.append(Field(kind, offset, WIDTHS[width], name, int(least), limit, number(most or "0"), int(refusal), only_if))
         offset += WIDTHS[width]
     if len(left) != 1 or offset != 3 + left[0][1]:
         raise LookupError(f"the fields of {TABLE} do not fill its records")
@@ -129,28 +151,33 @@ def picture_rows(texts):
 
 def faults_of_picture(texts):
     rows = list(picture_rows(texts))
-    expected = [(f.record, f.offset, f.width, f.name) for f in fields(texts[TABLE])]
-    for record, length in lengths(texts[TABLE]).items():
+    expected = [(f.record, f.offset, f.width, f.name + (f", if the length is {f.only_if}" if f.only_if else "")) for f in fields(texts[TABLE])]
+    for record, all_lengths in lengths(texts[TABLE]).items():
         if record != "End":
-            expected += [(record, 0, 1, f"tag: {tags(texts[TABLE])[record]:02X} hex"), (record, 1, 2, f"length of what follows: {length}")]
+            expected += [(record, 0, 1, f"tag: {tags(texts[TABLE])[record]:02X} hex"), (record, 1, 2, f"length of what follows: {said(all_lengths)}")]
     faults = [f"{HEADER}: no row of the plan says {place}" for place in expected
-              if not any(row[:3] == place[:3] and re.match(rf"{place[3]}($|[,:; ])", row[3]) for row in rows)]
+              if not any(row[:3] == place[:3] and re.match(rf"{place[3]}($|[,:; ](?! *(or|if) ))", row[3]) for row in rows)]
     return faults + ([f"{HEADER}: the plan has {len(rows)} rows"] if len(rows) != len(expected) else [])
 
 
 def faults_of_format(texts):
-    """Each field's row, and each refusal's: its offset, and of a field its name and the first value above."""
+    """Each field's row, the lengths', and each refusal's: its offset, and of a field its name and the first value above."""
     faults = []
     plain = re.sub(r"(?<=\d),(?=\d)", "", texts[FORMAT])
     rows = [[cell.strip() for cell in line.strip("|").split("|")] for line in plain.split("\n") if line.startswith("| ")]
     for field in fields(texts[TABLE]):
         words = [str(field.offset), str(field.width), field.name]
         numbers = set(refusals_of(field).values())
+        only_if = f"only if the length is {field.only_if}" if field.only_if else ""
         if not any(row[:3] == words and re.match(rf"{allowed(field)}(,|$)", row[3]) and numbers <= set(map(number, row[4].split(", ")))
+                   and (row[3].endswith(f", {only_if}") if only_if else "only if" not in row[3])
                    for row in rows if len(row) == 5 and row[4][0].isdigit()):
             faults.append(f"{FORMAT}: no row has {words}, {allowed(field)} and {numbers}")
         faults += [f"{FORMAT}: refusal {n} does not say {field.name} and its limit" for n in numbers
                    if not any(row[0] == str(n) and row[1].startswith(field.name) and says_limit(field, row[1]) for row in rows if len(row) == 4)]
+    for kind, all_lengths in lengths(texts[TABLE]).items():
+        if kind != "End" and ["1", "2", "length", said(all_lengths), "3"] not in rows:
+            faults.append(f"{FORMAT}: no row has the length {said(all_lengths)}")
     found = {(int(row[0]), int(row[3]) if row[3] else None) for row in rows if len(row) == 4 and row[0].isdigit() and row[2] and not row[1].isdigit()}
     return faults + ([f"{FORMAT}: the refusals' offsets differ in {sorted(n for n, _ in found ^ listed(texts))}"] if found != listed(texts) else [])
 
@@ -178,7 +205,8 @@ def sizes(texts):
     offset, width, _ = reply_rows(texts)[-1]
     record = offset + width
     flows = int(only(r"Kind::FlowRecord => (\d+) <= count", texts[CHECKS]))
-    plan = sum(3 + length for length in lengths(texts[TABLE]).values()) + (flows - 1) * (3 + lengths(texts[TABLE])["Flow"])
+    longest = {kind: 3 + all_lengths[-1] for kind, all_lengths in lengths(texts[TABLE]).items()}
+    plan = longest["Platform"] + flows * longest["Flow"] + longest["End"]
     return {"MOST_FLOWS": flows, "LONGEST_PLAN": plan, "LONGEST_REPLY": record * flows + 3, "FLOW_RECORD": record,
             "DECIDING_BYTES": int(only(r"let mut plan = \[0u8; (\d+)\]", texts[PROGRAM]))}
 
@@ -190,8 +218,9 @@ def faults_of_sizes(texts):
         faults += [f"{HEADER} and {RUST}: {name} is {found}, not {size}"] if found != (size, size) else []
     for name in ("LONGEST_PLAN", "LONGEST_REPLY"):
         faults += [] if f"at most {sizes(texts)[name]:,}" in texts[FORMAT] else [f"{FORMAT}: no {name}"]
-    found = {int(tag, 16): int(length) for tag, length in re.findall(r'(0x\w\w): \("\w+", (\d+)\)', texts[BYTES])}
-    expected = {tags(texts[TABLE])[kind]: length for kind, length in lengths(texts[TABLE]).items()}
+    found = {int(tag, 16): tuple(map(int, re.findall(r"\d+", all_lengths)))
+             for tag, all_lengths in re.findall(r'(0x\w\w): \("\w+", \(([\d, ]+)\)\)', texts[BYTES])}
+    expected = {tags(texts[TABLE])[kind]: all_lengths for kind, all_lengths in lengths(texts[TABLE]).items()}
     return faults + ([f"{BYTES}: the records are {found}"] if found != expected else [])
 
 
@@ -216,31 +245,60 @@ PLANTED = [
     (TABLE, "1, Limit::UpTo(65535), 34", "0, Limit::UpTo(65535), 34"),
     (TABLE, "Width::Two, 1, Limit::UpTo(65535), 34", "Width::Four, 1, Limit::UpTo(65535), 34"),
     (TABLE, "Limit::UpToPeriod(38), 36", "Limit::UpToPeriod(36), 38"),
-    (TABLE, "Kind::PlatformRecord => 6,\n        Kind::FlowRecord => 20", "Kind::PlatformRecord => 7,\n        Kind::FlowRecord => 20"),
+    (TABLE, "Kind::PlatformRecord => six_or_seven(told),\n        Kind::FlowRecord => 20", "Kind::PlatformRecord => 7,\n        Kind::FlowRecord => 20"),
+    (TABLE, "Kind::PlatformRecord => six_or_seven(told),\n        Kind::FlowRecord => 20", "Kind::PlatformRecord => 6,\n        Kind::FlowRecord => 20"),
+    (TABLE, "        Kind::FlowRecord => 20,", "        Kind::FlowRecord => six_or_seven(told),"),
+    (TABLE, "told == 7 {\n        return 7", "told == 8 {\n        return 8"),
+    (TABLE, "told == 7 {\n        return 7", "told == 8 {\n        return 7"),
+    (TABLE, "    }\n    6\n}", "    }\n    5\n}"),
+    (TABLE, "Limit::UpTo(8), 26", "Limit::UpTo(9), 26"),
+    (TABLE, "1, Limit::UpTo(8), 26", "0, Limit::UpTo(8), 26"),
     (CHECKS, "Kind::FlowRecord => 64 <= count", "Kind::FlowRecord => 65 <= count"),
     (PROGRAM, "[0u8; 2048]", "[0u8; 1024]"),
     (HEADER, "MOST_LINK_CYCLES 16", "MOST_LINK_CYCLES 32"),
     (HEADER, "#define LINGFALLOW_LEAST_FLITS 1\n", ""),
     (HEADER, "#define LINGFALLOW_MOST_ID 65534", "#define LINGFALLOW_LEAST_ID 1\n#define LINGFALLOW_MOST_ID 65534"),
+    (HEADER, "MOST_PRIORITY_FLITS 8", "MOST_PRIORITY_FLITS 9"),
+    (HEADER, "#define LINGFALLOW_LEAST_PRIORITY_FLITS 1\n", ""),
+    (HEADER, "REFUSED_PRIORITY_FLITS = 26", "REFUSED_PRIORITY_FLITS = 27"),
     (HEADER, "REFUSED_SOURCE = 32", "REFUSED_SOURCE = 33"),
     (HEADER, "REFUSED_AFTER_END = 10", "REFUSED_AFTER_END = 5"),
     (HEADER, "9     2  flits", "9     1  flits"),
     (HEADER, "11     4  period", "10     4  period"),
+    (HEADER, "length of what follows: 6 or 7", "length of what follows: 6     "),
+    (HEADER, "length of what follows: 6 or 7", "length of what follows: 7     "),
+    (HEADER, "length of what follows: 20", "length of what follows: 20 or 21"),
+    (HEADER, "9     1  priority flits", "8     1  priority flits"),
+    (HEADER, "priority flits, if the length is 7", "priority flits, if the length is 6"),
+    (HEADER, "priority flits, if the length is 7", "priority flits                    "),
+    (HEADER, "buffer flits                    ", "buffer flits, if the length is 7"),
     (HEADER, "1     2  length of what follows: 20", "1     2  length of what follows: 23"),
     (HEADER, "8     4  bound:", "8     2  bound:"),
+    (HEADER, "LONGEST_PLAN 1485", "LONGEST_PLAN 1484"),
     (HEADER, "LONGEST_REPLY 1027", "LONGEST_REPLY 1024"),
-    (HEADER, "VERSION_MINOR 6", "VERSION_MINOR 5"),
+    (HEADER, "VERSION_MINOR 7", "VERSION_MINOR 6"),
     (FORMAT, "| link cycles | 1..16 |", "| link cycles | 1..32 |"),
     (FORMAT, "link cycles 0 or above 16", "link cycles 0 or above 32"),
     (FORMAT, "| 15 | 4 | deadline | 1..period | 36, 38 |", "| 15 | 4 | deadline | 1..period | 36, 37 |"),
+    (FORMAT, "| length | 6 or 7 |", "| length | 6 |"),
+    (FORMAT, "| length | 20 |", "| length | 23 |"),
+    (FORMAT, "| 1..8, only if the length is 7 |", "| 0..8, only if the length is 7 |"),
+    (FORMAT, "| 1..8, only if the length is 7 |", "| 1..8, only if the length is 6 |"),
+    (FORMAT, "| 1..8, only if the length is 7 |", "| 1..8 |"),
+    (FORMAT, "| buffer flits | 1..64 |", "| buffer flits | 1..64, only if the length is 7 |"),
+    (FORMAT, "priority flits 0 or above 8", "priority flits 0 or above 9"),
+    (FORMAT, "| the priority flits | 9 |", "| the priority flits | 10 |"),
     (FORMAT, "| 11 | 4 | period |", "| 12 | 4 | period |"),
     (FORMAT, "| the length | 1 |", "| the length | 0 |"),
     (FORMAT, "| the priority | 5 |\n| 9 |", "| the priority | 6 |\n| 9 |"),
     (FORMAT, "| 12 | 4 | rounds |", "| 11 | 4 | rounds |"),
-    (FORMAT, "at most 1,484", "at most 1,485"),
+    (FORMAT, "at most 1,485", "at most 1,484"),
+    (RUST, "LONGEST_PLAN: usize = 1485", "LONGEST_PLAN: usize = 1484"),
     (RUST, "LONGEST_REPLY: usize = 1027", "LONGEST_REPLY: usize = 1024"),
-    (BYTES, '("flow", 20)', '("flow", 23)'),
-    (CHANGES, "## 0.6.0 ", "## 0.7.0 "),
+    (BYTES, '("flow", (20,))', '("flow", (23,))'),
+    (BYTES, '("platform", (6, 7))', '("platform", (6,))'),
+    (BYTES, '("platform", (6, 7))', '("platform", (6, 7, 8))'),
+    (CHANGES, "## 0.7.0 ", "## 0.8.0 "),
 ]
 
 

@@ -14,6 +14,7 @@
 
 enum { P_LENGTH = 81, P_REPLY = 51, ROOM = 64, HELD = 0xA5, STACK_LENT = 256 * 1024 };
 enum { ANALYSE_STACK = 48 * 1024, WRITE_STACK = 16 * 1024, WRITE_ROOM = P_LENGTH + 9 };
+enum { PRIORITY_FLITS = 2, SEVENTH = 9, SEVEN_LENGTH = P_LENGTH + 1 };
 
 static const uint8_t p_reply[P_REPLY] = {
     0x81, 0, 13, 0, 2, 0, 0xFF, 0xFF, 0, 0, 0x00, 0x3E, 0, 0, 0, 1, /* 2 bounded 62 rounds 1 */
@@ -23,10 +24,11 @@ static const uint8_t p_reply[P_REPLY] = {
 };
 
 static uint8_t plan[P_LENGTH];
+static uint8_t plan_with_seven[SEVEN_LENGTH]; /* P with a platform record of seven bytes */
 static uint8_t reply[ROOM];
 static uint8_t written[WRITE_ROOM];
 static struct lingfallow_plan numbers = {
-    .platform = {6, 1, 1, 0, 10, 3},
+    .platform = {6, 1, 1, 0, 10, 3, 0},
     .flows = {{2, 1, 4, 5, 60, 200, 200, 0}, {3, 2, 0, 5, 198, 4000, 4000, 0}, {5, 3, 1, 4, 128, 6000, 6000, 0}},
     .count = 3,
 };
@@ -62,13 +64,33 @@ static bool null_gives(const uint8_t *bytes, size_t length, uint8_t number, size
     return returned.number == number && returned.value == value;
 }
 
-/* The same of a writing of P, with another count. */
-static bool writes(size_t count, size_t length, uint8_t number, size_t value, size_t changed) {
+/* The same of a writing of P, with another count and so many priority flits. */
+static bool writes_with(uint8_t flits, size_t count, size_t length, uint8_t number, size_t value, size_t changed) {
     memset(written, HELD, WRITE_ROOM);
+    numbers.platform.priority_flits = flits;
     numbers.count = count;
     struct lingfallow_returned returned = lingfallow_write(numbers, written, length);
-    return returned.number == number && returned.value == value && memcmp(written, plan, changed) == 0 &&
+    return returned.number == number && returned.value == value &&
+           memcmp(written, flits == 0 ? plan : plan_with_seven, changed) == 0 &&
            held(written + changed, WRITE_ROOM - changed);
+}
+
+static bool writes(size_t count, size_t length, uint8_t number, size_t value, size_t changed) {
+    return writes_with(0, count, length, number, value, changed);
+}
+
+static void put_seven(void) {
+    memcpy(plan_with_seven, plan, SEVENTH);
+    plan_with_seven[2] = 7;
+    plan_with_seven[SEVENTH] = PRIORITY_FLITS;
+    memcpy(plan_with_seven + SEVENTH + 1, plan + SEVENTH, P_LENGTH - SEVENTH);
+}
+
+/* 64 flows that are in no fault: P's three, and more of one flit. */
+static void fill_flows(void) {
+    for (uint16_t k = 3; k < LINGFALLOW_MOST_FLOWS; k++) {
+        numbers.flows[k] = (struct lingfallow_flow){(uint16_t)(100 + k), (uint16_t)(100 + k), 0, 1, 1, 9, 9, 0};
+    }
 }
 
 static bool null_written(void) {
@@ -113,6 +135,16 @@ int main(void) {
     expect(writes(3, P_LENGTH, 0, P_LENGTH, P_LENGTH), "a buffer of 81 bytes holds P; nothing behind it changes");
     expect(writes(3, WRITE_ROOM, 0, P_LENGTH, P_LENGTH), "a longer buffer keeps its further bytes");
     expect(writes(4, WRITE_ROOM, 31, 83, 0), "a fourth flow of zeros has no priority, and the buffer stays as it was");
+    put_seven();
+    expect(writes_with(PRIORITY_FLITS, 3, P_LENGTH, 11, 0, 0), "a buffer of 81 bytes is too short with a seventh byte");
+    expect(writes_with(PRIORITY_FLITS, 3, WRITE_ROOM, 0, SEVEN_LENGTH, SEVEN_LENGTH), "2 priority flits are written");
+    expect(writes_with(9, 3, WRITE_ROOM, 26, SEVENTH, 0), "9 priority flits are refused, and the buffer stays");
+    expect(writes_with(255, 3, WRITE_ROOM, 26, SEVENTH, 0), "so are 255");
+    fill_flows();
+    expect(writes(64, WRITE_ROOM, 11, 0, 0), "64 flows are not refused, but for the buffer's length");
+    expect(writes(65, WRITE_ROOM, 6, 1481, 0), "a 65th flow is refused at its place");
+    expect(writes_with(PRIORITY_FLITS, 65, WRITE_ROOM, 6, 1482, 0), "with priority flits that is one byte later");
+    numbers.platform.priority_flits = 0;
     numbers.count = 3;
     expect(null_written(), "a null pointer of length 0 is a buffer that is too short for a plan");
     size_t analysing = stack_used(analyse_p), writing = stack_used(write_p);

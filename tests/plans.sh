@@ -38,4 +38,6 @@ script_exits 0 "$bounds" P
 script_exits 1 "$bounds" buffer-65
 script_exits 2 true P
 script_exits 2 "$bounds | head -n 3" P
+script_exits 0 "$bounds" priority-flits-2
+script_exits 2 "$bounds | head -n 3" priority-flits-2
 echo "plans: bounds prints the text of $plans plans"
