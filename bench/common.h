@@ -9,8 +9,8 @@
 
 enum { MOST_FLOWS = 64, MOST_CYCLES = 1000000000, SIDE = 8 };
 enum { PLATFORM_TAG = 0x01, FLOW_TAG = 0x02, END_TAG = 0x7F, ANSWER_TAG = 0x81 };
-enum { HEADER = 3, PLATFORM_BODY = 6, FLOW_BODY = 20, ANSWER_BODY = 13, NO_FLOW = 0xFFFF };
-enum { PLATFORM_SIZE = HEADER + PLATFORM_BODY, FLOW_SIZE = HEADER + FLOW_BODY };
+enum { HEADER = 3, PLATFORM_BODY = 6, LONGER_BODY = 7, FLOW_BODY = 20, ANSWER_BODY = 13, NO_FLOW = 0xFFFF };
+enum { FLOW_SIZE = HEADER + FLOW_BODY };
 enum { SB = 1, XLWX = 2, IBN = 3, HOUSE_DEFAULT = XLWX };
 
 /* Ids and priorities as read. What pads them is no legal value, so that searches may run on to a multiple of 8. */
@@ -49,10 +49,22 @@ static struct lingfallow_returned returned(uint8_t number, size_t value) {
 
 /* ---- reading */
 
-/* 20 to 25: the number and the offset of the platform's first field outside its values, or 0. */
+/* The length of a platform's body that tells so: one of two. */
+static inline size_t platform_body(const uint8_t *record) {
+    return two_at(record + 1) == LONGER_BODY ? LONGER_BODY : PLATFORM_BODY;
+}
+
+/* Where the flows of an accepted plan start, and its priority flits: the seventh byte where there is one. */
+static inline size_t flows_at(const uint8_t *plan) { return HEADER + platform_body(plan); }
+
+static inline uint32_t priority_flits(const uint8_t *plan) {
+    return platform_body(plan) == LONGER_BODY ? plan[HEADER + PLATFORM_BODY] : 0;
+}
+
+/* 20 to 26: the number and the offset of the platform's first field outside its values, or 0. */
 static struct lingfallow_returned platform_fault(const uint8_t *record) {
-    static const uint8_t lowest[PLATFORM_BODY] = {1, 1, 1, 0, 1, 0}, highest[PLATFORM_BODY] = {8, 8, 16, 16, 64, 3};
-    for (uint8_t k = 0; k < PLATFORM_BODY; k++) {
+    static const uint8_t lowest[LONGER_BODY] = {1, 1, 1, 0, 1, 0, 1}, highest[LONGER_BODY] = {8, 8, 16, 16, 64, 3, 8};
+    for (uint8_t k = 0; k < platform_body(record); k++) {
         uint8_t value = record[HEADER + k];
         if (value < lowest[k] || value > highest[k]) {
             return returned((uint8_t)(20 + k), HEADER + k);
@@ -90,7 +102,7 @@ static inline uint8_t header_fault(const uint8_t *bytes, size_t length, size_t a
     uint8_t tag = bytes[at];
     if (tag != PLATFORM_TAG && tag != FLOW_TAG && tag != END_TAG) return 2;
     if ((at == 0) != (tag == PLATFORM_TAG)) return 4;
-    size_t body = tag == FLOW_TAG ? FLOW_BODY : tag == PLATFORM_TAG ? PLATFORM_BODY : 0;
+    size_t body = tag == FLOW_TAG ? FLOW_BODY : tag == PLATFORM_TAG ? platform_body(bytes) : 0;
     if (two_at(bytes + at + 1) != body) return 3;
     return left - HEADER < body;
 }
@@ -121,7 +133,7 @@ static struct lingfallow_returned read_plan(const uint8_t *bytes, size_t length,
         } else if (bytes[at] == PLATFORM_TAG) {
             struct lingfallow_returned field = platform_fault(bytes);
             if (field.number != 0) return field;
-            at += PLATFORM_SIZE;
+            at = flows_at(bytes);
         } else if (at + HEADER < length) {
             return returned(10, at + HEADER);
         } else {

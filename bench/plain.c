@@ -176,11 +176,12 @@ static inline void answer(struct work *w, size_t i, const struct reading *r, con
 /* Takes the flows in order of priority. An accepted plan's records stand at known places. */
 static void take_flows(struct work *w, struct routes *routes, const uint8_t *bytes, size_t count,
                        const uint8_t *order) {
-    uint32_t columns = bytes[3], link = bytes[5], routing = bytes[6];
+    uint32_t columns = bytes[3], link = bytes[5], routing = bytes[6], more_flits = priority_flits(bytes);
+    const uint8_t *flows = bytes + flows_at(bytes);
     for (size_t i = 0; i < count; i++) {
-        const uint8_t *record = bytes + PLATFORM_SIZE + FLOW_SIZE * order[i];
+        const uint8_t *record = flows + FLOW_SIZE * order[i];
         put_route(routes, i, columns, record[7], record[8]);
-        w->latency[i] = link * (two_at(record + 9) + routes->exit[i]) + routing * routes->exit[i];
+        w->latency[i] = link * (two_at(record + 9) + more_flits + routes->exit[i]) + routing * routes->exit[i];
         w->period[i] = four_at(record + 11);
         w->jitter[i] = four_at(record + 19);
         w->limit[i] = limit_of(four_at(record + 15), w->jitter[i]);

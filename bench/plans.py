@@ -14,8 +14,9 @@ METHODS = {1: "sb", 2: "xlwx", 3: "ibn"}
 SIZES = (8, 16, 32)  # the plans that show how the cost grows are parts of crowded-ibn
 
 
-def platform(columns, rows, link, routing, buffer, method):
-    return struct.pack(">BH6B", 1, 6, columns, rows, link, routing, buffer, method)
+def platform(columns, rows, link, routing, buffer, method, *priority_flits):
+    body = (columns, rows, link, routing, buffer, method, *priority_flits)
+    return struct.pack(f">BH{len(body)}B", 1, len(body), *body)
 
 
 def flow(id, priority, source, destination, flits, period, deadline, jitter):
@@ -27,13 +28,13 @@ def plan(mesh, flows):
     return mesh + b"".join(flows) + struct.pack(">BH", 0x7F, 0)
 
 
-def plan_p():
+def plan_p(*priority_flits):
     flows = (
         flow(2, 1, 4, 5, 60, 200, 200, 0),
         flow(3, 2, 0, 5, 198, 4000, 4000, 0),
         flow(5, 3, 1, 4, 128, 6000, 6000, 0),
     )
-    return plan(platform(6, 1, 1, 0, 10, IBN), flows)
+    return plan(platform(6, 1, 1, 0, 10, IBN, *priority_flits), flows)
 
 
 def any_two_nodes(draw):
@@ -84,6 +85,7 @@ def plans():
     spread = random_flows(any_two_nodes, 0.14)
     crowded = random_flows(from_the_first_row, 0.02)
     yield "P", plan_p()
+    yield "P-flits-2", plan_p(2)
     for method, name in METHODS.items():
         yield f"full-{name}", square(method, spread)
     for method, name in METHODS.items():

@@ -3,7 +3,8 @@
 
 #include <string.h>
 
-enum { MOST_FLOWS = 65, HEADER = 3, PLATFORM_SIZE = 9, FLOW_SIZE = 23, SHORTEST_BITS = 6, LONGEST_BITS = 20 };
+enum { MOST_FLOWS = 65, HEADER = 3, PLATFORM_BODY = 6, LONGER_BODY = 7, FLOW_SIZE = 23 };
+enum { SHORTEST_BITS = 6, LONGEST_BITS = 20 };
 
 uint32_t draw(uint64_t *seed, uint32_t limit) {
     *seed ^= *seed << 13;
@@ -23,12 +24,15 @@ static void put_header(uint8_t *out, uint8_t tag, uint32_t length) {
     put_number(out + 1, 2, length);
 }
 
-static void put_platform(uint64_t *seed, uint8_t *out) {
-    static const uint8_t lowest[6] = {1, 1, 1, 0, 1, 0}, values[6] = {8, 8, 16, 17, 64, 4};
-    put_header(out, 0x01, 6);
-    for (size_t k = 0; k < 6; k++) {
+/* With priority flits in about half of the plans. Returns the record's size. */
+static size_t put_platform(uint64_t *seed, uint8_t *out) {
+    static const uint8_t lowest[LONGER_BODY] = {1, 1, 1, 0, 1, 0, 1}, values[LONGER_BODY] = {8, 8, 16, 17, 64, 4, 8};
+    uint32_t body = draw(seed, 2) ? LONGER_BODY : PLATFORM_BODY;
+    put_header(out, 0x01, body);
+    for (size_t k = 0; k < body; k++) {
         out[HEADER + k] = (uint8_t)(lowest[k] + draw(seed, values[k]));
     }
+    return HEADER + body;
 }
 
 /* A place of its own in both sequences makes ids and priorities distinct. */
@@ -47,15 +51,15 @@ static void put_flow(uint64_t *seed, uint8_t *out, uint32_t nodes, uint32_t plac
 }
 
 /* A changed byte or tag, an id or a priority taken from the first flow, a flow's field all zeros or all ones, bytes cut
- * off, or bytes behind the end.
+ * off, the platform's length or its last field another, or bytes behind the end.
  */
-static size_t damage(uint64_t *seed, uint8_t *bytes, size_t length, uint32_t flows) {
+static size_t damage(uint64_t *seed, uint8_t *bytes, size_t length, size_t start, uint32_t flows) {
     static const uint8_t tags[4] = {0x01, 0x02, 0x7F, 0x03};
     static const uint8_t fields[9] = {3, 5, 7, 8, 9, 11, 15, 19, 23};
     uint32_t any = draw(seed, (uint32_t)length), flow = draw(seed, flows + 1);
-    uint8_t *record = bytes + PLATFORM_SIZE + FLOW_SIZE * flow;
+    uint8_t *record = bytes + start + FLOW_SIZE * flow;
     const uint8_t *field = fields + draw(seed, 8);
-    switch (draw(seed, 8)) {
+    switch (draw(seed, 10)) {
     case 0:
         bytes[any] = (uint8_t)draw(seed, 256);
         return length;
@@ -66,16 +70,22 @@ static size_t damage(uint64_t *seed, uint8_t *bytes, size_t length, uint32_t flo
         (draw(seed, 4) ? record : bytes)[0] = tags[draw(seed, 4)];
         return length;
     case 3:
-        memmove(record + 3, bytes + PLATFORM_SIZE + 3, 2);
+        memmove(record + 3, bytes + start + 3, 2);
         return length;
     case 4:
-        memmove(record + 5, bytes + PLATFORM_SIZE + 5, 2);
+        memmove(record + 5, bytes + start + 5, 2);
         return length;
     case 5:
         memset(record + field[0], draw(seed, 2) ? 0 : 0xFF, field[1] - field[0]);
         return length;
     case 6:
         return any;
+    case 7:
+        bytes[2] = (uint8_t)(PLATFORM_BODY - 1 + draw(seed, 4));
+        return length;
+    case 8:
+        bytes[start - 1] = (uint8_t)draw(seed, 12);
+        return length;
     default:
         return length + draw(seed, 4);
     }
@@ -84,12 +94,11 @@ static size_t damage(uint64_t *seed, uint8_t *bytes, size_t length, uint32_t flo
 size_t random_plan(uint64_t *seed, uint8_t bytes[RANDOM_ROOM]) {
     uint32_t flows = draw(seed, 8) ? draw(seed, 24) : draw(seed, MOST_FLOWS + 1);
     memset(bytes, 0, RANDOM_ROOM);
-    put_platform(seed, bytes);
-    size_t length = PLATFORM_SIZE;
+    size_t start = put_platform(seed, bytes), length = start;
     for (uint32_t k = 1; k <= flows; k++, length += FLOW_SIZE) {
         put_flow(seed, bytes + length, (uint32_t)bytes[3] * bytes[4], k);
     }
     put_header(bytes + length, 0x7F, 0);
     length += HEADER;
-    return draw(seed, 2) ? length : damage(seed, bytes, length, flows);
+    return draw(seed, 2) ? length : damage(seed, bytes, length, start, flows);
 }

@@ -21,7 +21,7 @@ struct answer {
 };
 
 struct work {
-    unsigned columns, link, routing, buffer, method;
+    unsigned columns, link, routing, buffer, method, priority_flits;
     size_t count;
     struct flow flows[MOST_FLOWS];
     struct pair table[MOST_FLOWS][MOST_FLOWS];
@@ -95,7 +95,7 @@ static inline bool is_direct(const struct work *w, size_t i, size_t j) {
 static void latencies(struct work *w) {
     for (size_t i = 0; i < w->count; i++) {
         unsigned hops = w->table[i][i].count - 1u;
-        w->latency[i] = w->link * (w->flows[i].flits + hops) + w->routing * hops;
+        w->latency[i] = w->link * (w->flows[i].flits + w->priority_flits + hops) + w->routing * hops;
     }
 }
 
@@ -180,9 +180,10 @@ static void take_plan(struct work *w, const uint8_t *bytes, const struct reading
     w->routing = bytes[6];
     w->buffer = bytes[7];
     w->method = bytes[8] == 0 ? HOUSE_DEFAULT : bytes[8];
+    w->priority_flits = priority_flits(bytes);
     w->count = r->count;
     for (size_t i = 0; i < r->count; i++) {
-        const uint8_t *f = bytes + PLATFORM_SIZE + FLOW_SIZE * i;
+        const uint8_t *f = bytes + flows_at(bytes) + FLOW_SIZE * i;
         w->flows[i] = (struct flow){r->id[i],         r->priority[i],  f[7],           f[8], two_at(f + 9),
                                     four_at(f + 11), four_at(f + 15), four_at(f + 19)};
     }
