@@ -110,7 +110,13 @@ fn mesh_line(plan: &Plan, law: Law) -> String {
     let p = &plan.platform;
     let (first, second) = if law.breaks(Rule::TextRowsFirst) { (p.rows, p.columns) } else { (p.columns, p.rows) };
     let method = if law.breaks(Rule::TextMethodAsked) { p.method } else { method_used(p, law) };
-    format!("mesh {first}x{second} link {} route {} buffer {} method {method}", p.link, p.routing, p.buffer)
+    let added = if law.breaks(Rule::TextBufferMore) { p.priority_flits } else { 0 };
+    let buffer = p.buffer + added;
+    let line = format!("mesh {first}x{second} link {} route {} buffer {buffer} method {method}", p.link, p.routing);
+    match p.priority_flits {
+        flits if flits > 0 && law.breaks(Rule::TextPriorityFlits) => format!("{line} priority {flits}"),
+        _ => line,
+    }
 }
 
 fn line(flow: &Flow, verdict: &Verdict, law: Law) -> String {

@@ -4,6 +4,7 @@ use crate::answer::{expect, Accepted, Expected};
 use crate::disagreement::{agree, differ, hex, same_call, Called, Disagreement};
 use crate::law::{Law, Rule};
 use crate::product::{call_library, run_program, Lent, Returned};
+use crate::raised;
 use crate::random::Random;
 use crate::reading::Refusal;
 use crate::tally::Tally;
@@ -41,7 +42,8 @@ impl Trial<'_> {
             self.text(program, &expected, random)?;
         }
         self.text_of_part(&expected)?;
-        tally.count(&expected);
+        tally.count(self.bytes, &expected);
+        raised::compare(&expected, self.law, random, tally)?;
         Ok(expected)
     }
 

@@ -13,7 +13,7 @@ pub type Damage = fn(&mut Records, &mut Random);
 /// Chooses a value for a field, given its highest.
 type Choice = fn(&Field, Number, &mut Random) -> Number;
 
-const DAMAGES: [Damage; 15] = [
+const DAMAGES: [Damage; 16] = [
     flip_byte,
     field_to_edge,
     field_to_edge,
@@ -25,6 +25,7 @@ const DAMAGES: [Damage; 15] = [
     swap_records,
     wrong_tag,
     wrong_length,
+    platform_resized,
     platform_missing,
     platform_twice,
     faults_in_one_flow,
@@ -120,12 +121,18 @@ fn high_of(field: &Field, record: &[u8], nodes: Number) -> Number {
 /// A longer one could bring so many rounds that a run takes minutes.
 const LONGEST_DEADLINE: Number = 10_000_000;
 
+/// The fields of a record by its tag, as far as its bytes go.
+fn fields_in(record: &[u8]) -> Vec<&'static Field> {
+    let fields = record.first().map_or(&[][..], |tag| fields_of(*tag));
+    fields.iter().filter(|field| field.offset + field.width <= record.len()).collect()
+}
+
 fn field_in(choice: Choice, record: &mut [u8], nodes: Number, random: &mut Random) {
-    let fields = record.first().map_or(&[][..], |tag| fields_of(Number::from(*tag)));
+    let fields = fields_in(record);
     if fields.is_empty() {
         return;
     }
-    let field = &fields[random.below(fields.len())];
+    let field = random.pick(&fields);
     let high = high_of(field, record, nodes);
     let mut value = choice(field, high, random);
     if matches!(field.high, High::Period) && value <= high && value > LONGEST_DEADLINE {
@@ -136,7 +143,7 @@ fn field_in(choice: Choice, record: &mut [u8], nodes: Number, random: &mut Rando
 
 /// A field to a value with this refusal, and so many further fields behind it, if there are, outside their values too.
 pub fn refuse(number: u8, further: usize, record: &mut [u8], nodes: Number, random: &mut Random) {
-    let fields = fields_of(Number::from(record[0])).iter().skip_while(|field| !field.refusals().contains(&number));
+    let fields = fields_in(record).into_iter().skip_while(|field| !field.refusals().contains(&number));
     for (place, field) in fields.take(1 + further).enumerate() {
         let wanted = if place == 0 { [number; 2] } else { field.refusals() };
         let value = outside(field, high_of(field, record, nodes), wanted, random);
@@ -204,8 +211,19 @@ fn wrong_length(records: &mut Records, random: &mut Random) {
     let index = any_record(records, random);
     let said = number_in(&records[index], 1, 2);
     let other = Number::from(random.byte());
-    let length = random.pick(&[0, 1, 6, 20, said + 1, said - 1, said + 256, 65_535, other]);
+    let length = random.pick(&[0, 1, 6, 7, 20, said + 1, said - 1, said + 256, 65_535, other]);
     put(&mut records[index], 1, &bytes_of(length, 2));
+}
+
+/// The first record has a byte more or less, or says another length, or both.
+fn platform_resized(records: &mut Records, random: &mut Random) {
+    let length = 5 + random.below(4);
+    if random.chance(60) {
+        records[0].resize(HEADER + length, random.pick(&[0, 1, 8, 9, 255]));
+    }
+    if random.chance(60) {
+        put(&mut records[0], 1, &bytes_of(length as Number, 2));
+    }
 }
 
 fn platform_missing(records: &mut Records, _random: &mut Random) {
@@ -284,11 +302,12 @@ fn sixty_fifth(random: &mut Random) -> Vec<u8> {
 
 /// Records with right headers and bodies of small numbers, in any order.
 fn many_records(random: &mut Random) -> Vec<u8> {
-    let mut bytes = vec![PLATFORM_TAG, 0, 6];
-    bytes.extend((0..6).map(|_| 1 + random.byte() % 8));
+    let length = random.pick(lengths_of(PLATFORM_TAG));
+    let mut bytes = vec![PLATFORM_TAG, 0, length as u8];
+    bytes.extend((0..length).map(|_| 1 + random.byte() % 8));
     for _ in 0..random.below(8) {
         let tag = random.pick(&[FLOW_TAG, FLOW_TAG, FLOW_TAG, PLATFORM_TAG, END_TAG, 0x04]);
-        let length = length_of(Number::from(tag)).unwrap_or(2);
+        let length = lengths_of(tag).last().copied().unwrap_or(2);
         bytes.push(tag);
         bytes.extend(bytes_of(length, 2));
         bytes.extend((0..length).map(|_| random.byte() % 4));

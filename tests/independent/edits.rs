@@ -4,7 +4,7 @@ use crate::damage::{field_to_any, field_to_edge, wrong_numbers_in_one_flow, Dama
 use crate::model::{Flow, Number, Plan};
 use crate::plans::{crowded_plan, good_plan};
 use crate::random::Random;
-use crate::reading::{plan_at, start_of, MOST_FLOWS};
+use crate::reading::{plan_at, FLOW_RECORD, MOST_FLOWS};
 use crate::writing::Writing;
 
 /// They leave the headers whole, so that the records still say numbers.
@@ -18,7 +18,12 @@ const MOST_FURTHER: usize = 3;
 pub fn some_writing(random: &mut Random) -> Writing {
     let (plan, count) = some_numbers(random);
     let edits = random.pick(&[0, 0, 0, 0, 1, 1, 1, 2, 2, 3]);
-    writing_of(edited(plan, edits, random), count, random)
+    let mut plan = edited(plan, edits, random);
+    if random.chance(6) {
+        // Records without a seventh byte have none that an edit could change.
+        plan.platform.priority_flits = Number::from(random.byte());
+    }
+    writing_of(plan, count, random)
 }
 
 /// The plan's flows in the first places of the array, and anything behind them.
@@ -57,7 +62,6 @@ fn some_numbers(random: &mut Random) -> (Plan, usize) {
 /// Most of them would be few if they were cut, or if the plan's length were.
 fn too_many(random: &mut Random) -> usize {
     let few = random.below(MOST_FLOWS + 1);
-    let flow_record = start_of(2) - start_of(1);
     match random.below(10) {
         0..=2 => MOST_FLOWS + 1,
         3 => MOST_FLOWS + 2,
@@ -65,7 +69,7 @@ fn too_many(random: &mut Random) -> usize {
         5 => (1 << 8) + few,
         6 => (1 << 16) + few,
         7 => (1 << 32) + few,
-        8 => [usize::MAX / flow_record + 1 + few, usize::MAX / 2 + 1 + few][random.below(2)],
+        8 => [usize::MAX / FLOW_RECORD + 1 + few, usize::MAX / 2 + 1 + few][random.below(2)],
         _ => usize::MAX - random.below(2) * few,
     }
 }

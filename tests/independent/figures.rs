@@ -1,5 +1,5 @@
 //! The fixed list: plan P with its reply and text, every row of "Figures to meet", typed from document 01, every
-//! refusal of a field, typed from L2 of document 02, the rows of L3, and the corners of L4.
+//! refusal of a field, typed from L2 of document 02, the rows of L3, the corners of L4, and the rows of L7.
 
 use crate::answer::Expected;
 use crate::compare::Trial;
@@ -8,6 +8,7 @@ use crate::disagreement::{agree, hex, Disagreement};
 use crate::edits::writing_of;
 use crate::law::Law;
 use crate::model::{Flow, Number, Plan, Platform};
+use crate::priority_flits;
 use crate::product::{call_library, Lent};
 use crate::random::Random;
 use crate::reading::plan_at;
@@ -16,7 +17,7 @@ use crate::tally::Tally;
 use crate::ticks::{Large, LARGE, TICK_ROWS};
 use crate::written::{self, give_back};
 
-const P: &str = "01 0006 06 01 01 00 0A 03
+pub const P: &str = "01 0006 06 01 01 00 0A 03
     02 0014 0002 0001 04 05 003C 000000C8 000000C8 00000000
     02 0014 0003 0002 00 05 00C6 00000FA0 00000FA0 00000000
     02 0014 0005 0003 01 04 0080 00001770 00001770 00000000
@@ -40,7 +41,7 @@ pub const METHOD: usize = 8;
 pub const FLOW_2: usize = 9;
 pub const FLOW_3: usize = 32;
 pub const FLOW_5: usize = 55;
-const FLOWS: usize = 3;
+pub const FLOWS: usize = 3;
 const END: usize = 78;
 const SOURCE: usize = 7;
 pub const PERIOD: usize = 11;
@@ -71,9 +72,9 @@ const ROWS: &[Row] = &[
 ];
 
 /// A field outside its values: its offset in the record, its bytes, and the refusal.
-type Outside = (usize, &'static [u8], u8);
+pub type Outside = (usize, &'static [u8], u8);
 
-const PLATFORM_OUTSIDE: &[Outside] = &[
+pub const PLATFORM_OUTSIDE: &[Outside] = &[
     (3, &[0], 20),
     (3, &[9], 20),
     (4, &[0], 21),
@@ -87,7 +88,7 @@ const PLATFORM_OUTSIDE: &[Outside] = &[
 ];
 
 /// P has six nodes; 6,001 is above the period of each of its flows, and just above the third's.
-const FLOW_OUTSIDE: &[Outside] = &[
+pub const FLOW_OUTSIDE: &[Outside] = &[
     (3, &[0xFF, 0xFF], 30),
     (5, &[0, 0], 31),
     (7, &[6], 32),
@@ -108,17 +109,13 @@ pub fn from_hex(text: &str) -> Option<Vec<u8>> {
     whole.then(|| digits.chunks(2).map(|pair| (16 * pair[0] + pair[1]) as u8).collect())
 }
 
-fn typed(text: &str) -> Vec<u8> {
+pub fn typed(text: &str) -> Vec<u8> {
     from_hex(text).expect("the document's bytes are typed in hex")
 }
 
-/// P with these bytes at these places.
-fn p_with(changes: &[(usize, &[u8])]) -> Vec<u8> {
-    changed(P, changes)
-}
-
-fn changed(plan: &str, changes: &[(usize, &[u8])]) -> Vec<u8> {
-    let mut bytes = typed(plan);
+/// The plan with these bytes at these places.
+pub fn changed(plan: &[u8], changes: &[(usize, &[u8])]) -> Vec<u8> {
+    let mut bytes = plan.to_vec();
     for (place, new) in changes {
         bytes[*place..place + new.len()].copy_from_slice(new);
     }
@@ -131,19 +128,19 @@ fn completed(start: &str, jitter: u32) -> Vec<u8> {
 }
 
 /// What the document says against what this program expects; the product is held to the latter.
-fn figure(bytes: &[u8], about: &str, expected: String, came: String) -> Result<(), Disagreement> {
+pub fn figure(bytes: &[u8], about: &str, expected: String, came: String) -> Result<(), Disagreement> {
     let about = format!("figures to meet: {about}");
     agree(bytes, expected == came, &about, || (expected.clone(), came.clone()))
 }
 
-struct Fixed<'a> {
+pub struct Fixed<'a> {
     program: &'a str,
-    tally: &'a mut Tally,
+    pub tally: &'a mut Tally,
     plans: usize,
 }
 
 impl Fixed<'_> {
-    fn agree(&mut self, bytes: &[u8]) -> Result<Expected, Disagreement> {
+    pub fn agree(&mut self, bytes: &[u8]) -> Result<Expected, Disagreement> {
         self.plans += 1;
         let (mut random, trial) = (Random::of_plan(0, self.plans as u64), Trial { bytes, law: Law::WHOLE });
         let expected = trial.compare(self.program, &mut random, self.tally)?;
@@ -160,7 +157,7 @@ impl Fixed<'_> {
         short_and_exact(&bytes)
     }
 
-    fn lines(&mut self, bytes: &[u8], about: &str, lines: &[&str]) -> Result<(), Disagreement> {
+    pub fn lines(&mut self, bytes: &[u8], about: &str, lines: &[&str]) -> Result<(), Disagreement> {
         let text = self.agree(bytes)?.text;
         for line in lines {
             let found = text.lines().find(|printed| printed == line);
@@ -170,12 +167,12 @@ impl Fixed<'_> {
     }
 
     fn row(&mut self, row: &Row) -> Result<(), Disagreement> {
-        self.lines(&p_with(row.0), "a row", row.1)
+        self.lines(&changed(&typed(P), row.0), "a row", row.1)
     }
 
     fn turned(&mut self, (plan, methods): &Turned) -> Result<(), Disagreement> {
         for (method, lines) in *methods {
-            self.lines(&changed(plan, &[(METHOD, &[*method])]), "a plan of corners", lines)?;
+            self.lines(&changed(&typed(plan), &[(METHOD, &[*method])]), "a plan of corners", lines)?;
         }
         Ok(())
     }
@@ -191,10 +188,11 @@ impl Fixed<'_> {
         self.agree(&bytes).map(|_| ())
     }
 
-    /// Read or written, the field is refused where it stands: at its record's start in P and its offset.
-    fn outside(&mut self, record: usize, (offset, new, number): Outside) -> Result<(), Disagreement> {
+    /// Read or written, the field is refused where it stands: at its record's start in the plan and its offset. Of a
+    /// seventh byte of 0 nothing is written.
+    pub fn outside(&mut self, plan: &[u8], record: usize, (offset, new, number): Outside) -> Result<(), Disagreement> {
         let place = record + offset;
-        let bytes = p_with(&[(place, new)]);
+        let bytes = changed(plan, &[(place, new)]);
         let text = self.agree(&bytes)?.text;
         figure(&bytes, "a field outside its values", format!("refused {number} at {place}\n"), text)?;
         let mut random = Random::of_writing(0, self.plans as u64);
@@ -203,12 +201,13 @@ impl Fixed<'_> {
     }
 
     fn fields_outside(&mut self) -> Result<(), Disagreement> {
+        let plan = typed(P);
         for field in PLATFORM_OUTSIDE {
-            self.outside(PLATFORM, *field)?;
+            self.outside(&plan, PLATFORM, *field)?;
         }
         for record in [FLOW_2, FLOW_3, FLOW_5] {
             for field in FLOW_OUTSIDE {
-                self.outside(record, *field)?;
+                self.outside(&plan, record, *field)?;
             }
         }
         Ok(())
@@ -250,7 +249,7 @@ fn short_and_exact(bytes: &[u8]) -> Result<(), Disagreement> {
 }
 
 fn mesh([columns, rows]: [Number; 2]) -> Platform {
-    Platform { columns, rows, link: 1, routing: 0, buffer: 10, method: 3 }
+    Platform { columns, rows, link: 1, routing: 0, buffer: 10, method: 3, priority_flits: 0 }
 }
 
 fn small_flow(id: Number, [source, destination]: [Number; 2]) -> Flow {
@@ -286,6 +285,7 @@ pub fn check(program: &str, tally: &mut Tally) -> Result<usize, Disagreement> {
     }
     fixed.fields_outside()?;
     fixed.shorter_plans()?;
+    priority_flits::check(&mut fixed)?;
     for plan in LARGE {
         fixed.large(plan)?;
     }

@@ -1,7 +1,8 @@
-//! The law is document 01 with the fields' refusals of L2 and the deadlines of L3 of document 02, and for writing L1;
-//! L4 leaves it as it is. A planted fault breaks one rule of it on the expected side, so that a run must fail.
+//! The law is document 01 with the fields' refusals of L2, the deadlines of L3 and the priority flits of L7 of document
+//! 02, and for writing L1; L4 leaves it as it is. A planted fault breaks one rule of it on the expected side, so that a
+//! run must fail.
 
-use crate::model::{all_fields, field_refusals, High, Number, FLOW_FIELDS, PLATFORM_FIELDS};
+use crate::model::{all_fields, field_refusals, High, Number, FLOW_FIELDS, PLATFORM_FIELDS, SEVENTH};
 use crate::reading::{Check, CHECKS};
 use std::collections::BTreeSet;
 
@@ -95,6 +96,51 @@ rules! {
     JitterLateFirst "jitter-late-first" "late comes before waits when the jitter is above the deadline";
     JitterRefused "jitter-refused" "a jitter above the deadline is refused 37";
 
+    [SEVENTH_READING]
+    SevenRefused "seven-refused" "a platform record of length 7 is refused 3, as before L7";
+    SixRefused "six-refused" "a platform record of length 6 is refused 3";
+    FiveLetIn "five-let-in" "a platform record of length 5 is let in, with method 0";
+    EightLetIn "eight-let-in" "a platform record of length 8 is let in";
+    LengthLowByte "length-low-byte" "of the platform's length the second byte alone decides";
+    SeventhCut "seventh-cut" "a cut seventh byte is no cut body";
+    NextByteTaken "next-byte-taken" "the byte behind a record of length 6 is taken for the priority flits";
+    SeventhDemanded "seventh-demanded" "a record of length 6 is refused 26, as a seventh byte of 0 is";
+    StartsNotMoved "starts-not-moved" "the flows are read from 9 on behind a seventh byte too";
+    CutNotMoved "cut-not-moved" "1 behind a seventh byte is told as without it";
+    AfterEndNotMoved "after-end-not-moved" "10 behind a seventh byte is told as without it";
+    EndByteUnread "end-byte-unread" "of a plan no more than 1,484 bytes are read";
+
+    [SEVENTH_PLACES]
+    SeventhAtMethod "seventh-at-method" "refusal 26 stands at the method";
+    SeventhAtStart "seventh-at-start" "refusal 26 stands at the record's start";
+    SeventhFirst "seventh-first" "26 comes before 20";
+    SeventhLast "seventh-last" "26 comes behind the faults of all flows";
+    PlacesNotMoved "places-not-moved" "places behind a seventh byte are told as without it";
+    PlacesAlwaysMoved "places-always-moved" "places behind a record of length 6 are told as behind a seventh byte";
+    SixtyFifthNotMoved "sixty-fifth-not-moved" "a 65th flow is refused at 1,481 behind a seventh byte too";
+
+    [PRIORITY_FLITS]
+    FlitsAlone "flits-alone" "C without the priority flits";
+    FlitsNoLink "flits-no-link" "the priority flits are added to C without the link cycles";
+    FlitsRouted "flits-routed" "the priority flits take routing cycles";
+    FlitsBuffered "flits-buffered" "B with the priority flits added to the buffer flits";
+    FlitsTwice "flits-twice" "the priority flits are added twice";
+    FlitsEachLink "flits-each-link" "the priority flits are added for each link of the route";
+    FlitsOne "flits-one" "one flit is added, however many priority flits there are";
+    FlitsGreater "flits-greater" "the greater of flits and priority flits is taken";
+    FlitsTwoBytes "flits-two-bytes" "the flits with the priority flits are cut to two bytes";
+    FlitsAtMost "flits-at-most" "the flits with the priority flits are 65,535 at most";
+    FlitsNotDefault "flits-not-default" "method 0 leaves the priority flits out";
+    FlitsNotSb "flits-not-sb" "SB leaves the priority flits out";
+    FlitsNotXlwx "flits-not-xlwx" "XLWX leaves the priority flits out";
+    FlitsNotIbn "flits-not-ibn" "IBN leaves the priority flits out";
+    OwnWithout "own-without" "C_i of the recurrence is without the priority flits";
+    WeightWithout "weight-without" "C_j of a weight is without the priority flits";
+    AllowanceWithout "allowance-without" "C_j of an allowance is without the priority flits";
+    SumsWithout "sums-without" "C_k of the sums over k is without the priority flits";
+    StartWithout "start-without" "rounds start at C without the priority flits";
+    LateWithout "late-without" "C without the priority flits decides whether a late flow has rounds";
+
     [SHARED]
     RowUndirected "row-undirected" "the two directions along a row are one link";
     ColumnUndirected "column-undirected" "the two directions along a column are one link";
@@ -149,6 +195,8 @@ rules! {
     TextRowsFirst "text-rows-first" "the mesh is printed as rows by columns";
     TextNoLastLf "text-no-last-lf" "the last line has no LF";
     TextLateBare "text-late-bare" "a late line without its rounds";
+    TextPriorityFlits "text-priority-flits" "the mesh line ends with the priority flits, if there are any";
+    TextBufferMore "text-buffer-more" "the mesh line adds the priority flits to the buffer flits";
 
     [NUMBERING]
     FieldsAsBefore "fields-as-before" "every field outside its values is refused 5, as before L2";
@@ -158,6 +206,7 @@ rules! {
     DeadlineAlwaysZero "deadline-always-36" "a deadline above its period is refused 36 too";
     DeadlineAlwaysAbove "deadline-always-38" "a deadline of zero is refused 38 too";
     JitterLast "jitter-last" "a deadline above its period is refused 37, a jitter 38";
+    SeventhAsMethod "seventh-as-method" "a seventh byte outside its values is refused 25";
 
     [WRITING]
     WriteIdPriority "write-id-priority" "id and priority are written in each other's place";
@@ -187,6 +236,23 @@ rules! {
     WriteCleared "write-cleared" "the further bytes of the buffer are cleared";
     WriteGuardBefore "write-guard-before" "the guard byte before the buffer is written";
     WriteGuardBehind "write-guard-behind" "the guard byte behind the buffer is written";
+    WriteSevenAlways "write-seven-always" "a seventh byte of 0 is written too";
+    WriteSixAlways "write-six-always" "no seventh byte is written";
+    WriteNone "write-none" "priority flits are not looked at";
+    WriteZeroRefused "write-zero-refused" "priority flits 0 are refused 26";
+    WriteAtMostEight "write-at-most-eight" "priority flits above 8 are taken for 8";
+    WriteAboveAsNone "write-above-as-none" "priority flits above 8 are taken for 0";
+    WriteFourBits "write-four-bits" "priority flits are cut to four bits";
+    WriteSeventhBlank "write-seventh-blank" "the seventh byte is written as 0";
+    WriteSeventhBefore "write-seventh-before" "the seventh byte is written before the method";
+    WriteLengthSix "write-length-six" "a record with a seventh byte says length 6";
+    WriteLengthSeven "write-length-seven" "a record without a seventh byte says length 7";
+    WriteNeedsSix "write-needs-six" "the seventh byte does not count in the plan's length";
+    WriteNeedsSeven "write-needs-seven" "a seventh byte that is not written counts in the plan's length";
+    WriteLongest "write-longest" "of a plan of 1,485 bytes 1,484 are written";
+    RereadNone "reread-none" "reading what was written gives no priority flits";
+    RewriteSix "rewrite-six" "writing what was read from seven bytes gives six";
+    RewriteSeven "rewrite-seven" "writing what was read from six bytes gives seven";
     RereadMethod "reread-method" "reading what was written gives method 2 for 0";
     RereadReversed "reread-reversed" "reading what was written gives the flows in reverse order";
     RewriteMethod "rewrite-method" "writing what was read gives method 2 for 0";
@@ -235,11 +301,13 @@ impl Plant {
     fn shows_in_writing(&self) -> bool {
         match self {
             Plant::Rule(Rule::FieldsBackwards | Rule::LastRecord | Rule::ReplyByPriority | Rule::JitterRefused) => true,
-            Plant::Rule(rule) => is_in(NUMBERING, *rule),
+            Plant::Rule(rule) => is_in(NUMBERING, *rule) || is_in(SEVENTH_PLACES, *rule),
             Plant::Order(first) => {
                 CHECKS[*first..first + 2].iter().all(|check| check.refusals().is_subset(&refusals_of_writing()))
             }
             Plant::Place(number) | Plant::Never(number) => refusals_of_writing().contains(number),
+            // Nothing is written of priority flits 0, so the lowest edge of a seventh byte is never passed.
+            Plant::Edge(SEVENTH, End::Low, by) => *by > 0,
             Plant::FieldOrder(..) | Plant::Number(_) | Plant::Edge(..) => true,
         }
     }
@@ -313,6 +381,8 @@ impl Law {
     pub fn field_rank(&self, place: usize, name: &str) -> usize {
         match self.planted {
             Some(Plant::Rule(Rule::FieldsBackwards)) => usize::MAX - place,
+            Some(Plant::Rule(Rule::SeventhFirst)) if name == SEVENTH => 0,
+            Some(Plant::Rule(Rule::SeventhFirst)) => place + 1,
             Some(Plant::FieldOrder(before, _)) if name == before => place + 1,
             Some(Plant::FieldOrder(_, behind)) if name == behind => place - 1,
             _ => place,
@@ -341,10 +411,11 @@ impl Law {
 fn misnumbered(rule: Rule, right: u8) -> u8 {
     match (rule, right) {
         (Rule::FieldsAsBefore, _) => 5,
-        (Rule::PlatformFromThirty, 20..=25) => right + 10,
+        (Rule::PlatformFromThirty, 20..=26) => right + 10,
         (Rule::FlowFromTwenty, 30..=38) => right - 10,
         (Rule::DeadlineSwapped | Rule::DeadlineAlwaysAbove, 36) => 38,
         (Rule::DeadlineSwapped | Rule::DeadlineAlwaysZero, 38) => 36,
+        (Rule::SeventhAsMethod, 26) => 25,
         (Rule::JitterLast, 37) => 38,
         (Rule::JitterLast, 38) => 37,
         _ => right,
@@ -390,7 +461,8 @@ fn rule_plants(rules: &'static [(Rule, &str, &str)]) -> impl Iterator<Item = Nam
 }
 
 fn analysing_plants() -> Vec<Named> {
-    let rules = [ANALYSING, TICK, SHARED, PLACE, TEXT, NUMBERING].into_iter().flat_map(rule_plants);
+    let of_platform = [SEVENTH_READING, SEVENTH_PLACES, PRIORITY_FLITS];
+    let rules = [ANALYSING, TICK, SHARED, PLACE, TEXT, NUMBERING].into_iter().chain(of_platform).flat_map(rule_plants);
     let orders = (0..CHECKS.len() - 1).map(order_plant).chain(field_order_plants());
     let places = refusals().into_iter().map(|number| {
         (Plant::Place(number), format!("place-{number}"), format!("refusal {number} stands one byte later"))

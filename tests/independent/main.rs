@@ -1,5 +1,5 @@
-//! An independent second witness: document 01 with the requests L1 to L4 of document 02, worked out by other means and
-//! compared with the product.
+//! An independent second witness: document 01 with the requests L1 to L4 and L7 of document 02, worked out by other
+//! means and compared with the product.
 
 mod answer;
 mod claims;
@@ -15,11 +15,15 @@ mod law;
 mod model;
 mod pairs;
 mod plans;
+mod priority_flits;
 mod product;
+mod raised;
 mod random;
 mod reading;
 mod routes;
 mod rules;
+mod seen;
+mod sevenths;
 mod tally;
 mod ticks;
 mod turns;

@@ -1,4 +1,5 @@
-//! A plan in document 01's words, the table of its fields, and its bytes. The fields' refusals are those of request L2.
+//! A plan in document 01's words, the table of its fields, and its bytes. The fields' refusals are those of request L2,
+//! and the priority flits, a seventh byte of the platform record, those of L7.
 
 use std::collections::BTreeSet;
 
@@ -18,6 +19,8 @@ pub struct Platform {
     pub routing: Number,
     pub buffer: Number,
     pub method: Number,
+    /// 0 for none: then the record has no seventh byte.
+    pub priority_flits: Number,
 }
 
 #[derive(Clone, Debug, Default, PartialEq, Eq)]
@@ -75,9 +78,11 @@ impl Field {
 }
 
 pub const BILLION: Number = 1_000_000_000;
+pub const MOST_FLITS: Number = 65_535;
 pub const COLUMNS: usize = 3;
 pub const ROWS: usize = 4;
 pub const METHOD: usize = 8;
+pub const PRIORITY_FLITS: usize = 9;
 pub const ID: usize = 3;
 pub const PRIORITY: usize = 5;
 pub const SOURCE: usize = 7;
@@ -86,13 +91,18 @@ pub const PERIOD: usize = 11;
 pub const DEADLINE: usize = 15;
 pub const JITTER: usize = 19;
 
-pub const PLATFORM_FIELDS: [Field; 6] = [
+/// The name of the platform's seventh byte.
+pub const SEVENTH: &str = "priority-flits";
+
+/// A record of length 6 ends before the last of them.
+pub const PLATFORM_FIELDS: [Field; 7] = [
     field(20, "columns", COLUMNS, 1, 1, High::Fixed(8)),
     field(21, "rows", ROWS, 1, 1, High::Fixed(8)),
     field(22, "link", 5, 1, 1, High::Fixed(16)),
     field(23, "routing", 6, 1, 0, High::Fixed(16)),
     field(24, "buffer", 7, 1, 1, High::Fixed(64)),
     field(25, "method", METHOD, 1, 0, High::Fixed(3)),
+    field(26, SEVENTH, PRIORITY_FLITS, 1, 1, High::Fixed(8)),
 ];
 
 pub const FLOW_FIELDS: [Field; 8] = [
@@ -100,7 +110,7 @@ pub const FLOW_FIELDS: [Field; 8] = [
     field(31, "priority", PRIORITY, 2, 1, High::Fixed(65_535)),
     field(32, "source", SOURCE, 1, 0, High::LastNode),
     field(33, "destination", DESTINATION, 1, 0, High::LastNode),
-    field(34, "flits", 9, 2, 1, High::Fixed(65_535)),
+    field(34, "flits", 9, 2, 1, High::Fixed(MOST_FLITS)),
     field(35, "period", PERIOD, 4, 1, High::Fixed(BILLION)),
     // Zero is an unfilled cell, above the period a planning error.
     Field { above: 38, ..field(36, "deadline", DEADLINE, 4, 1, High::Period) },
@@ -121,22 +131,27 @@ pub fn is_of_flow(number: u8) -> bool {
     FLOW_FIELDS.iter().any(|field| field.refusals().contains(&number))
 }
 
+/// Whether the platform's seventh byte has this refusal.
+pub fn is_of_seventh(number: u8) -> bool {
+    PLATFORM_FIELDS.iter().any(|field| field.name == SEVENTH && field.refusals().contains(&number))
+}
+
 /// The fields of a record by its tag; the end record and unknown ones have none.
-pub fn fields_of(tag: Number) -> &'static [Field] {
-    match u8::try_from(tag) {
-        Ok(PLATFORM_TAG) => &PLATFORM_FIELDS,
-        Ok(FLOW_TAG) => &FLOW_FIELDS,
+pub fn fields_of(tag: u8) -> &'static [Field] {
+    match tag {
+        PLATFORM_TAG => &PLATFORM_FIELDS,
+        FLOW_TAG => &FLOW_FIELDS,
         _ => &[],
     }
 }
 
-/// The body length that belongs to a tag.
-pub fn length_of(tag: Number) -> Option<Number> {
-    match u8::try_from(tag) {
-        Ok(PLATFORM_TAG) => Some(6),
-        Ok(FLOW_TAG) => Some(20),
-        Ok(END_TAG) => Some(0),
-        _ => None,
+/// The body lengths that belong to a tag; an unknown one has none.
+pub fn lengths_of(tag: u8) -> &'static [Number] {
+    match tag {
+        PLATFORM_TAG => &[6, 7],
+        FLOW_TAG => &[20],
+        END_TAG => &[0],
+        _ => &[],
     }
 }
 
@@ -150,8 +165,10 @@ impl Platform {
         self.columns * self.rows
     }
 
+    /// Without priority flits there is no seventh byte.
     pub fn record(&self) -> Vec<u8> {
-        let values = [self.columns, self.rows, self.link, self.routing, self.buffer, self.method];
+        let mut values = vec![self.columns, self.rows, self.link, self.routing, self.buffer, self.method];
+        values.extend(Some(self.priority_flits).filter(|flits| *flits != 0));
         record(PLATFORM_TAG, &PLATFORM_FIELDS, &values)
     }
 }

@@ -64,6 +64,7 @@ fn platform(random: &mut Random) -> Platform {
         routing: [0, 0, random.between(0, 16), 16][random.below(4)],
         buffer: [1, 2, random.between(1, 64), random.between(1, 64), 64][random.below(5)],
         method: random.between(0, 3),
+        priority_flits: [0, 0, 0, 1, 8, random.between(1, 8)][random.below(6)],
     }
 }
 

@@ -9,7 +9,7 @@ use std::thread::sleep;
 use std::time::Duration;
 
 #[repr(C)]
-#[derive(PartialEq, Eq)]
+#[derive(Clone, Copy, PartialEq, Eq)]
 pub struct Returned {
     pub number: u8,
     pub value: usize,
@@ -23,6 +23,7 @@ struct PlatformNumbers {
     routing: u8,
     buffer: u8,
     method: u8,
+    priority_flits: u8,
 }
 
 #[repr(C)]
@@ -64,6 +65,7 @@ impl PlatformNumbers {
             routing: in_width(platform.routing),
             buffer: in_width(platform.buffer),
             method: in_width(platform.method),
+            priority_flits: in_width(platform.priority_flits),
         }
     }
 }

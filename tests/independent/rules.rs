@@ -1,7 +1,7 @@
 //! The analysis: who delays whom, the three recurrences, verdicts and rounds. A bound is worked out when asked for.
 
 use crate::law::{Law, Rule};
-use crate::model::{Flow, Number, Plan, Platform};
+use crate::model::{Flow, Number, Plan, Platform, MOST_FLITS};
 use crate::pairs::Pair;
 use crate::routes::{route, shared_places, Link, Places};
 use std::cell::RefCell;
@@ -31,6 +31,7 @@ pub struct Analysis<'a> {
 
 const SB: Number = 1;
 const XLWX: Number = 2;
+const IBN: Number = 3;
 
 /// Up to so many values of a window are tried one by one.
 const TRIES: Number = 3000;
@@ -38,12 +39,13 @@ const TRIES: Number = 3000;
 pub fn method_used(platform: &Platform, law: Law) -> Number {
     match platform.method {
         0 if law.breaks(Rule::MethodZeroSb) => SB,
-        0 if law.breaks(Rule::MethodZeroIbn) => 3,
+        0 if law.breaks(Rule::MethodZeroIbn) => IBN,
         0 => XLWX,
         other => other,
     }
 }
 
+/// C, with the priority flits added to the flow's.
 pub fn latency(platform: &Platform, flow: &Flow, length: usize, law: Law) -> Number {
     let hops = length as Number - 1;
     let link = if law.breaks(Rule::LatencyNoLink) { 1 } else { platform.link };
@@ -52,7 +54,30 @@ pub fn latency(platform: &Platform, flow: &Flow, length: usize, law: Law) -> Num
         (_, true) => hops + 1,
         _ => hops,
     };
-    link * (flow.flits + hops) + platform.routing * routed
+    let (flits, further) = flits_sent(platform, flow, length, law);
+    link * (flits + hops) + platform.routing * routed + further
+}
+
+/// The flow's flits and the priority's; and, by a planted fault, cycles that the latter add to C by themselves.
+fn flits_sent(platform: &Platform, flow: &Flow, length: usize, law: Law) -> (Number, Number) {
+    let (flits, added, method) = (flow.flits, platform.priority_flits, method_used(platform, Law::WHOLE));
+    let both = flits + added;
+    match law.broken() {
+        Some(Rule::FlitsAlone) => (flits, 0),
+        Some(Rule::FlitsNoLink) => (flits, added),
+        Some(Rule::FlitsRouted) => (both, platform.routing * added),
+        Some(Rule::FlitsTwice) => (both + added, 0),
+        Some(Rule::FlitsEachLink) => (flits + added * length as Number, 0),
+        Some(Rule::FlitsOne) => (flits + added.min(1), 0),
+        Some(Rule::FlitsGreater) => (flits.max(added), 0),
+        Some(Rule::FlitsTwoBytes) => (both % (MOST_FLITS + 1), 0),
+        Some(Rule::FlitsAtMost) => (both.min(MOST_FLITS), 0),
+        Some(Rule::FlitsNotDefault) if platform.method == 0 => (flits, 0),
+        Some(Rule::FlitsNotSb) if method == SB => (flits, 0),
+        Some(Rule::FlitsNotXlwx) if method == XLWX => (flits, 0),
+        Some(Rule::FlitsNotIbn) if method == IBN => (flits, 0),
+        _ => (both, 0),
+    }
 }
 
 impl<'a> Analysis<'a> {
@@ -64,6 +89,13 @@ impl<'a> Analysis<'a> {
 
     pub fn latency(&self, i: usize) -> Number {
         latency(&self.plan.platform, &self.plan.flows[i], self.routes[i].len(), self.law)
+    }
+
+    /// C, but without the priority flits if this rule is broken.
+    fn latency_by(&self, rule: Rule, i: usize) -> Number {
+        let Platform { link, priority_flits, .. } = self.plan.platform;
+        let without = if self.law.breaks(rule) { link * priority_flits } else { 0 };
+        self.latency(i) - without
     }
 
     fn all(&self) -> std::ops::Range<usize> {
@@ -181,14 +213,14 @@ impl<'a> Analysis<'a> {
         if self.law.breaks(Rule::SumsOfBounds) {
             self.bound(k)
         } else {
-            self.latency(k)
+            self.latency_by(Rule::SumsWithout, k)
         }
     }
 
     fn allowance(&self, i: usize, j: usize) -> Number {
         let law = self.law;
         let of_upstream = || self.hits_times(j, &self.upstream(i, j), |k| self.cost(k));
-        let delay = || self.bound(j) - self.latency(j);
+        let delay = || self.bound(j) - self.latency_by(Rule::AllowanceWithout, j);
         match method_used(&self.plan.platform, law) {
             SB if law.breaks(Rule::SbNoAllowance) => 0,
             SB => delay(),
@@ -201,7 +233,7 @@ impl<'a> Analysis<'a> {
 
     fn weight(&self, i: usize, j: usize) -> Number {
         let law = self.law;
-        let alone = self.latency(j);
+        let alone = self.latency_by(Rule::WeightWithout, j);
         let downstream = self.downstream(i, j);
         match method_used(&self.plan.platform, law) {
             SB => alone,
@@ -224,8 +256,9 @@ impl<'a> Analysis<'a> {
     fn buffered(&self, i: usize, j: usize, k: usize) -> Number {
         let platform = &self.plan.platform;
         let other = if self.law.breaks(Rule::BSharedWithK) { k } else { i };
+        let added = if self.law.breaks(Rule::FlitsBuffered) { platform.priority_flits } else { 0 };
         let factors = [
-            (platform.buffer, Rule::BNoFlits),
+            (platform.buffer + added, Rule::BNoFlits),
             (platform.link, Rule::BNoLink),
             (self.count(j, other) as Number, Rule::BNoShared),
         ];
@@ -253,7 +286,7 @@ impl<'a> Analysis<'a> {
         let jitter = |rule: Rule| if self.law.breaks(rule) { self.plan.flows[i].jitter } else { 0 };
         let window = x + jitter(Rule::JitterInWindow);
         let delays = terms.iter().map(|term| self.packets(term, window) * term.weight).sum::<Number>();
-        self.latency(i) + jitter(Rule::OwnJitter) + delays
+        self.latency_by(Rule::OwnWithout, i) + jitter(Rule::OwnJitter) + delays
     }
 
     /// What is gone of the deadline when the packet is released: the flow's own jitter.
@@ -300,12 +333,13 @@ impl<'a> Analysis<'a> {
 
     /// Counted as the paper words it, apart from the bound.
     fn rounds(&self, i: usize, terms: &[Term]) -> Number {
-        let (start, deadline) = (self.latency(i), self.plan.flows[i].deadline);
+        let (first, deadline) = (self.latency_by(Rule::LateWithout, i), self.plan.flows[i].deadline);
         let last = if self.law.breaks(Rule::RoundsWholeDeadline) { deadline } else { self.last_allowed(i) };
-        if start > last {
-            let one = self.law.breaks(Rule::RoundsZeroOnlyC) && start <= deadline;
+        if first > last {
+            let one = self.law.breaks(Rule::RoundsZeroOnlyC) && first <= deadline;
             return Number::from(one || self.law.breaks(Rule::RoundsLateOne));
         }
+        let start = self.latency_by(Rule::StartWithout, i);
         let mut x = if self.law.breaks(Rule::RoundsFromZero) { 0 } else { start };
         let mut rounds = Number::from(self.law.breaks(Rule::RoundsOneMore));
         loop {

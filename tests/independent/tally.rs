@@ -3,11 +3,13 @@
 use crate::answer::{Accepted, Expected, Judged};
 use crate::counts::Counts;
 use crate::law::{refusals, refusals_of_writing};
-use crate::model::{is_of_flow, Number};
+use crate::model::{is_of_flow, Number, Plan};
 use crate::pairs::Pair;
 use crate::product::Returned;
 use crate::reading::start_of;
 use crate::rules::Verdict;
+use crate::seen::{Analysed, Asked};
+use crate::writing::Writing;
 use std::collections::{BTreeMap, BTreeSet};
 
 /// How often each number was met, and at which places.
@@ -27,9 +29,10 @@ impl Met {
         self.times.get(&number).copied().unwrap_or(0)
     }
 
-    /// Whether a refusal was met in the first flow, or else in a later one.
+    /// Whether a field's refusal was met in the first flow, or else in a later one. Behind a seventh byte, too, the
+    /// first flow's fields stand before the place where the second flow starts without it.
     fn in_flow(&self, number: u8, first: bool) -> bool {
-        self.places.iter().any(|(met, place)| *met == number && (*place < start_of(2)) == first)
+        self.places.iter().any(|(met, place)| *met == number && (*place < start_of(2, 6)) == first)
     }
 
     /// A case for each of these refusals, two more for each of a flow's fields, and whether they were met.
@@ -60,13 +63,18 @@ pub struct Tally {
     late_by_rounds: usize,
     jitters: Counts<Judged>,
     pairs: Counts<Pair>,
+    sevenths: Counts<Analysed>,
     upstream: usize,
     downstream: usize,
     most_rounds: Number,
     most_rounds_bounded: Number,
     /// Calls of the writer, by the number and the value returned.
     written: Met,
+    sevenths_written: Counts<Asked>,
     given_back: usize,
+    /// Those of them with a seventh byte.
+    given_back_sevenths: usize,
+    raised: usize,
     written_counts: BTreeSet<usize>,
     meshes: BTreeSet<(Number, Number)>,
     methods: BTreeSet<Number>,
@@ -81,19 +89,27 @@ impl Tally {
         }
     }
 
-    pub fn wrote(&mut self, returned: &Returned, flows: usize) {
+    pub fn wrote(&mut self, returned: Returned, writing: &Writing) {
         self.written.add(returned.number, returned.value);
         if returned.number == 0 {
-            self.written_counts.insert(flows);
+            self.written_counts.insert(writing.count);
         }
+        self.sevenths_written.count(&Asked { priority_flits: writing.platform.priority_flits, returned });
     }
 
     /// A plan's bytes came back by writing what was read from them.
-    pub fn gave_back(&mut self) {
+    pub fn gave_back(&mut self, plan: &Plan) {
         self.given_back += 1;
+        self.given_back_sevenths += usize::from(plan.platform.priority_flits > 0);
     }
 
-    pub fn count(&mut self, expected: &Expected) {
+    /// A plan's answers were those of the plan with its flits raised.
+    pub fn raised(&mut self) {
+        self.raised += 1;
+    }
+
+    pub fn count(&mut self, bytes: &[u8], expected: &Expected) {
+        self.sevenths.count(&Analysed::of(bytes, expected));
         match &expected.answer {
             Ok(accepted) => self.count_accepted(accepted),
             Err(refusal) => self.refused.add(refusal.number, refusal.place),
@@ -147,6 +163,8 @@ impl Tally {
         println!("flows waiting: {}", self.waiting);
         self.jitters.print();
         self.pairs.print();
+        self.sevenths.print();
+        println!("plans equal to those with their flits raised: {}", self.raised);
         println!("upstream k: {}, downstream k: {}", self.upstream, self.downstream);
         println!("most rounds: {}, of a bounded flow: {}", self.most_rounds, self.most_rounds_bounded);
         println!("mesh sizes: {}, flow counts: {}", self.meshes.len(), self.flow_counts.len());
@@ -155,8 +173,10 @@ impl Tally {
         for number in refusals_of_writing() {
             println!("writer calls refused {number}: {}", self.written.times(number));
         }
+        self.sevenths_written.print();
         println!("flow counts written: {}", self.written_counts.len());
-        println!("plans given back by writing what was read: {}", self.given_back);
+        let (given_back, sevenths) = (self.given_back, self.given_back_sevenths);
+        println!("plans given back by writing what was read: {given_back}, of them with a seventh byte: {sevenths}");
     }
 
     /// The cases that never occurred.
@@ -179,11 +199,13 @@ impl Tally {
             ("every number of flows", self.flow_counts.len() == 65),
             ("acceptance of a writing", self.written.times(0) > 0),
             ("every number of flows in an accepted writing", self.written_counts.len() == 65),
-            ("a plan given back by writing what was read", self.given_back > 0),
+            ("a plan given back with a seventh byte", self.given_back_sevenths > 0),
+            ("a plan given back without a seventh byte", self.given_back > self.given_back_sevenths),
+            ("a plan equal to that with its flits raised", self.raised > 0),
         ];
-        let others = others.iter().map(|(name, seen)| (name.to_string(), *seen));
-        let all =
-            of_plans.into_iter().chain(of_writings).chain(others).chain(self.jitters.cases()).chain(self.pairs.cases());
-        all.filter(|(_, seen)| !seen).map(|(name, _)| name).collect()
+        let others = others.iter().map(|(name, seen)| (name.to_string(), *seen)).collect();
+        let counted = [self.jitters.cases(), self.pairs.cases(), self.sevenths.cases(), self.sevenths_written.cases()];
+        let all = [of_plans, of_writings, others, counted.concat()].concat();
+        all.into_iter().filter(|(_, seen)| !seen).map(|(name, _)| name).collect()
     }
 }

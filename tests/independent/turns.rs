@@ -1,31 +1,46 @@
-//! What is tried at an index: a case in its turn, or what chance makes. By chance alone a run of some thousand plans could
-//! miss a refusal of a field or a number of flows, and a fault planted there would take long to be caught.
+//! What is tried at an index: a case in its turn, or what chance makes. By chance alone a run of some thousand plans
+//! could miss a refusal of a field, a seventh byte or a number of flows, and a fault planted there would take long to
+//! be caught.
 
 use crate::damage::{nodes_in, refuse, some_bytes, Records};
 use crate::edits::{some_writing, writing_of};
-use crate::model::{field_refusals, is_of_flow, FLOW_FIELDS};
+use crate::model::{field_refusals, is_of_flow, is_of_seventh, Number, FLOW_FIELDS};
 use crate::plans::{crowded_plan, good_plan};
 use crate::random::Random;
 use crate::reading::{plan_at, MOST_FLOWS};
+use crate::sevenths::{bytes_in_turn, writing_in_turn};
 use crate::writing::Writing;
 
-/// One of so many plans has the next refusal of a field, and one of so many the next number of flows.
+/// One of so many plans has the next refusal of a field, one of so many the next kind of seventh byte, and one of so
+/// many the next number of flows.
 const REFUSAL_EVERY: u64 = 8;
+const SEVENTH_EVERY: u64 = 16;
 const FLOWS_EVERY: u64 = 32;
 
-/// The first index of a number of flows; those of the refusals start at 0, and no index has both.
+/// The first index of each of the latter two; those of the refusals start at 0, and no index has two.
+const FIRST_SEVENTH: u64 = 2;
 const FIRST_FLOWS: u64 = 4;
 
 /// The bytes to analyse.
 pub fn bytes_at(index: u64, random: &mut Random) -> Vec<u8> {
+    if let Some(turn) = turn_of_seventh(index) {
+        return bytes_in_turn(turn, random);
+    }
     match in_turn(index, random) {
         Some(records) => records.concat(),
         None => some_bytes(random),
     }
 }
 
+fn turn_of_seventh(index: u64) -> Option<usize> {
+    (index % SEVENTH_EVERY == FIRST_SEVENTH).then_some((index / SEVENTH_EVERY) as usize)
+}
+
 /// The numbers to write.
 pub fn writing_at(index: u64, random: &mut Random) -> Writing {
+    if let Some(turn) = turn_of_seventh(index) {
+        return writing_in_turn(turn, random);
+    }
     match in_turn(index, random) {
         Some(records) => {
             let count = flows_of(&records);
@@ -56,10 +71,14 @@ fn refused(turn: usize, random: &mut Random) -> Records {
     // In every other round one field alone is in fault; in the rest the order field by field decides.
     let further = if round % 2 == 0 { FLOW_FIELDS.len() } else { 0 };
     let of_flow = is_of_flow(number);
-    let mut records = good_plan(random).records();
-    if of_flow && flows_of(&records) == 0 {
-        records = crowded_plan(1, random).records();
+    let mut plan = good_plan(random);
+    if of_flow && plan.flows.is_empty() {
+        plan = crowded_plan(1, random);
     }
+    // A record without a seventh byte cannot have its refusal.
+    let least = Number::from(is_of_seventh(number));
+    plan.platform.priority_flits = plan.platform.priority_flits.max(least);
+    let mut records = plan.records();
     let (flows, nodes) = (flows_of(&records), nodes_in(&records));
     let index = if of_flow { [1, flows, 1 + random.below(flows)][random.below(3)] } else { 0 };
     refuse(number, further, &mut records[index], nodes, random);

@@ -4,7 +4,7 @@ use crate::disagreement::Called;
 use crate::law::{Law, Rule};
 use crate::model::*;
 use crate::product::{Lent, Returned};
-use crate::reading::{read, start_of, Refusal, MOST_FLOWS};
+use crate::reading::{read, start_of, Refusal, LONGEST_BEFORE, MOST_FLOWS};
 use crate::rules::method_used;
 use std::mem::swap;
 
@@ -35,7 +35,20 @@ impl Writing {
         let count = self.counted(law);
         let further = if count > MOST_FLOWS { &self.further[..] } else { &[] };
         let flows = [&self.places[..count.min(MOST_FLOWS)], further].concat();
-        Plan { platform: self.platform.clone(), flows }
+        Plan { platform: self.platform_by(law), flows }
+    }
+
+    fn platform_by(&self, law: Law) -> Platform {
+        let mut platform = self.platform.clone();
+        let flits = &mut platform.priority_flits;
+        match law.broken() {
+            Some(Rule::WriteNone) => *flits = 0,
+            Some(Rule::WriteAtMostEight) => *flits = (*flits).min(8),
+            Some(Rule::WriteAboveAsNone) if *flits > 8 => *flits = 0,
+            Some(Rule::WriteFourBits) => *flits %= 16,
+            _ => {}
+        }
+        platform
     }
 }
 
@@ -53,10 +66,15 @@ impl Due {
         let plan = writing.plan(law);
         let bytes = plan.records().concat();
         let mut refusal = read(&bytes, law).err();
-        if law.breaks(Rule::WriteManyFirst) && writing.count > MOST_FLOWS {
-            refusal = Some(Refusal { number: 6, place: start_of(MOST_FLOWS + 1) });
+        if law.breaks(Rule::WriteZeroRefused) && plan.platform.priority_flits == 0 {
+            let before = refusal.filter(|refusal| refusal.place < PRIORITY_FLITS);
+            refusal = before.or(Some(Refusal { number: 26, place: PRIORITY_FLITS }));
         }
-        Due { refusal, needed: bytes.len(), bytes: misspelt(plan, law) }
+        if law.breaks(Rule::WriteManyFirst) && writing.count > MOST_FLOWS {
+            let platform = plan.platform.record().len() - HEADER;
+            refusal = Some(Refusal { number: 6, place: start_of(MOST_FLOWS + 1, platform) });
+        }
+        Due { refusal, needed: needed(&plan, law), bytes: misspelt(plan, law) }
     }
 
     /// Writing what was read gives the bytes that it was read from.
@@ -64,7 +82,11 @@ impl Due {
         let mut other = plan.clone();
         use_method(&mut other, law, Rule::RewriteMethod);
         reverse(&mut other, law, Rule::RewriteReversed);
-        let bytes = if other == *plan { bytes.to_vec() } else { other.records().concat() };
+        no_priority_flits(&mut other, law, Rule::RewriteSix);
+        let mut bytes = if other == *plan { bytes.to_vec() } else { other.records().concat() };
+        if law.breaks(Rule::RewriteSeven) && plan.platform.priority_flits == 0 {
+            add_seventh(&mut bytes);
+        }
         Due { refusal: None, needed: bytes.len(), bytes }
     }
 
@@ -122,9 +144,50 @@ pub fn reverse(plan: &mut Plan, law: Law, rule: Rule) {
     }
 }
 
+pub fn no_priority_flits(plan: &mut Plan, law: Law, rule: Rule) {
+    if law.breaks(rule) {
+        plan.platform.priority_flits = 0;
+    }
+}
+
+/// A seventh byte of 0 in a record without one.
+fn add_seventh(record: &mut Vec<u8>) {
+    record[HEADER - 1] += 1;
+    record.insert(PRIORITY_FLITS, 0);
+}
+
+/// How long the buffer has to be, which is returned too.
+fn needed(plan: &Plan, law: Law) -> usize {
+    let right = plan.records().concat().len();
+    match (law.broken(), plan.platform.priority_flits) {
+        (Some(Rule::WriteSevenAlways | Rule::WriteNeedsSeven), 0) => right + 1,
+        (Some(Rule::WriteSixAlways | Rule::WriteNeedsSix), 1..) => right - 1,
+        (Some(Rule::WriteLongest), _) => right.min(LONGEST_BEFORE),
+        _ => right,
+    }
+}
+
+/// The platform's record with the planted fault, if it is one of the seventh byte.
+fn wrong_seventh(record: &mut Vec<u8>, law: Law) {
+    match (law.broken(), record.len() > PRIORITY_FLITS) {
+        (Some(Rule::WriteSevenAlways), false) => add_seventh(record),
+        (Some(Rule::WriteSixAlways), true) => {
+            record.pop();
+            record[HEADER - 1] -= 1;
+        }
+        (Some(Rule::WriteSeventhBlank), true) => record[PRIORITY_FLITS] = 0,
+        (Some(Rule::WriteSeventhBefore), true) => record.swap(METHOD, PRIORITY_FLITS),
+        (Some(Rule::WriteLengthSix), true) => record[HEADER - 1] -= 1,
+        (Some(Rule::WriteLengthSeven), false) => record[HEADER - 1] += 1,
+        _ => {}
+    }
+}
+
 /// The plan's bytes with the planted fault, if it is one of the bytes.
 fn misspelt(plan: Plan, law: Law) -> Vec<u8> {
+    let most = if law.breaks(Rule::WriteLongest) { LONGEST_BEFORE } else { usize::MAX };
     let mut records = wrong_numbers(plan, law).records();
+    wrong_seventh(&mut records[0], law);
     for record in &mut records {
         wrong_spelling(record, law);
     }
@@ -133,6 +196,7 @@ fn misspelt(plan: Plan, law: Law) -> Vec<u8> {
     }
     let mut bytes = records.concat();
     bytes.truncate(bytes.len() - usize::from(law.breaks(Rule::WriteLastByte)));
+    bytes.truncate(most);
     bytes
 }
 
@@ -160,7 +224,7 @@ fn wrong_numbers(mut plan: Plan, law: Law) -> Plan {
 }
 
 fn wrong_spelling(record: &mut [u8], law: Law) {
-    for field in fields_of(Number::from(record[0])) {
+    for field in fields_of(record[0]) {
         let little = match field.width {
             2 => law.breaks(Rule::WriteLittleTwo),
             4 => law.breaks(Rule::WriteLittleFour),

@@ -8,7 +8,7 @@ use crate::product::{call_writer, Lent, PlanNumbers};
 use crate::random::Random;
 use crate::reading::read;
 use crate::tally::Tally;
-use crate::writing::{reverse, use_method, Due, Writing};
+use crate::writing::{no_priority_flits, reverse, use_method, Due, Writing};
 
 /// Has room for every reply.
 const REPLY: usize = 1027;
@@ -19,10 +19,10 @@ const LONG: usize = 3000;
 pub fn compare(writing: &Writing, law: Law, random: &mut Random, tally: &mut Tally) -> Result<(), Disagreement> {
     let due = Due::of(writing, law);
     let exact = call(writing, &due, due.needed, law, random)?;
-    tally.wrote(&exact.returned, writing.count);
+    tally.wrote(exact.returned, writing);
     for length in [due.needed - 1, due.needed + 1 + random.below(60), 0, random.below(LONG)] {
         let called = call(writing, &due, length, law, random)?;
-        tally.wrote(&called.returned, writing.count);
+        tally.wrote(called.returned, writing);
     }
     match exact {
         Called { returned, mut buffer } if returned.number == 0 => read_back(writing, buffer.inside(), law, random),
@@ -35,10 +35,9 @@ pub fn give_back(bytes: &[u8], law: Law, random: &mut Random, tally: &mut Tally)
     // By the whole law: a fault planted in the refusals has to show in the numbers made to be written.
     if let Ok(plan) = read(bytes, Law::WHOLE) {
         let due = Due::same(bytes, &plan, law);
-        let count = plan.flows.len();
         let length = due.needed + random.below(2) * random.below(60);
-        call(&writing_of(plan, count, random), &due, length, law, random)?;
-        tally.gave_back();
+        call(&writing_of(plan.clone(), plan.flows.len(), random), &due, length, law, random)?;
+        tally.gave_back(&plan);
     }
     Ok(())
 }
@@ -59,6 +58,7 @@ fn read_back(writing: &Writing, bytes: &[u8], law: Law, random: &mut Random) -> 
     let mut due = writing.plan(law);
     use_method(&mut due, law, Rule::RereadMethod);
     reverse(&mut due, law, Rule::RereadReversed);
+    no_priority_flits(&mut due, law, Rule::RereadNone);
     let refused = |refusal| differ(bytes, "reading what was written", "a plan".to_string(), format!("{refusal:?}"));
     let came = read(bytes, law).map_err(refused)?;
     agree(bytes, came == due, "reading what was written", || (format!("{due:?}"), format!("{came:?}")))?;
