@@ -2,11 +2,12 @@
 use Prim.Native.Nat.{ℕ}
 use mathlib.Core.Path.{_≡_, refl}
 use mathlib.Core.List.{List, [], _∷_, map}
-use lib.ListN.{set}
+use lib.ListN.{set, replicate}
 use Rattle.framing.specs.First.{_when_else_}
 use Rattle.plan_table.specs.Table.{tagOf, sixOrSeven}
 use Rattle.plan_values.specs.Values.{priorityFlitsAt}
 use Rattle.plan_checks.specs.Checks.{headerAt, taggedAt, frameAt, clashAt, tailAt, restAt}
+use Rattle.plan.specs.Padded.{padded}
 use Rattle.plan.specs.Records.{fieldsFrom, _then_, bodyAt, recordAt}
 use Rattle.plan.specs.Reading.{accepted, refused, after, records, readPlan}
 use Rattle.framing.specs.declared.returned.Outcome.the-variants.{Accepted, Refused}
@@ -32,3 +33,7 @@ limits :
     ≡ Accepted ∷ Refused 32 16 ∷ Refused 33 17 ∷ Refused 32 39 ∷ Refused 33 40 ∷ Refused 38 24 ∷ Accepted ∷ []
 unfolding tagOf sixOrSeven priorityFlitsAt headerAt taggedAt frameAt fieldsFrom clashAt tailAt restAt _then_ bodyAt recordAt accepted refused after records readPlan _when_else_
 limits = refl
+
+-- "0 to 64 flows": what is kept of two, and 62 blanks behind it.
+padding : padded {A = ℕ} 0 (7 ∷ 8 ∷ []) ≡ 7 ∷ 8 ∷ replicate 62 0
+padding = refl

@@ -23,3 +23,4 @@ mod Examples
 mod Neighbours
 mod Apart
 mod Sevenths
+mod Edges

@@ -7,8 +7,8 @@ use lib.ListN.{getD}
 use Rattle.framing.specs.First.{_when_else_}
 use Rattle.plan_table.specs.Table.{linesOf, noField}
 use Rattle.plan_table.specs.declared.Kind.{Kind}
-use Rattle.plan_table.specs.declared.Kind.the-variants.{PlatformRecord, FlowRecord}
-use Rattle.plan_checks.specs.Checks.{limitsAt, outside, clashAt}
+use Rattle.plan_table.specs.declared.Kind.the-variants.{PlatformRecord, FlowRecord, EndRecord}
+use Rattle.plan_checks.specs.Checks.{periodAt, limitsAt, outside, clashAt, tailAt, restAt}
 use Rattle.plan_checks.specs.declared.Limits.{Limits}
 use Rattle.plan_checks.specs.declared.Checked.{Checked}
 use Rattle.plan_checks.specs.declared.Checked.the-variants.{Fault, Passed}
@@ -23,6 +23,10 @@ limits = limitsAt bytes 1 FlowRecord (record { columns = 5; rows = 3; link = 2; 
 -- "below columns x rows", "1..period"
 limits-are : limits ≡ record { nodes = 15; period = 1000 }
 limits-are = refl
+
+-- "Only a flow record has a period."
+periods : map (periodAt bytes 1) (PlatformRecord ∷ FlowRecord ∷ EndRecord ∷ []) ≡ 0 ∷ 1000 ∷ 0 ∷ []
+periods = refl
 
 -- Whether values are outside those of field k of a record.
 abbrev outsides : Kind → ℕ → List ℕ → List Bool
@@ -67,3 +71,13 @@ clashes :
     ≡ Passed FlowRecord ∷ Fault 7 103 ∷ Fault 8 105 ∷ Fault 7 103 ∷ Fault 9 108 ∷ []
 unfolding clashAt _when_else_
 clashes = refl
+
+-- Behind the fields: 7 and 8 of the flow above, of which id 7 and priority 9 are asked for; nothing of a platform; 10 of an end record with a byte behind it.
+rests :
+    restAt bytes 1 FlowRecord (8 ∷ []) (7 ∷ []) ∷ restAt bytes 1 FlowRecord (7 ∷ []) (8 ∷ []) ∷ restAt bytes 1 FlowRecord (8 ∷ []) (9 ∷ [])
+    ∷ restAt bytes 1 PlatformRecord (7 ∷ []) (9 ∷ [])
+    ∷ restAt (0xEE ∷ 0x7F ∷ 0 ∷ 0 ∷ []) 1 EndRecord [] [] ∷ restAt (0xEE ∷ 0x7F ∷ 0 ∷ 0 ∷ 0xEE ∷ []) 1 EndRecord [] []
+    ∷ []
+    ≡ Passed FlowRecord ∷ Fault 7 4 ∷ Fault 8 6 ∷ Passed PlatformRecord ∷ Passed EndRecord ∷ Fault 10 4 ∷ []
+unfolding clashAt tailAt restAt _when_else_
+rests = refl

@@ -1,9 +1,10 @@
 -- A platform record and a flow record at place 2 of some bytes, no byte twice: each value is read where it stands, and most significant byte first.
 use mathlib.Core.Path.{_≡_, refl}
 use mathlib.Core.List.{[], _∷_, map}
+use lib.ListN.{replicate}
 use Prim.Native.Nat.{ℕ}
 use Rattle.framing.specs.First.{_when_else_}
-use Rattle.plan_values.specs.Values.{sixAt, priorityFlitsAt, platformAt, platformLength, flowAt}
+use Rattle.plan_values.specs.Values.{sixAt, priorityFlitsAt, platformAt, platformLength, flowAt, blankPlatform, blankFlow}
 
 -- "A six-byte record means zero", whatever stands behind it; a seven-byte record has its seventh.
 platform-read :
@@ -34,3 +35,7 @@ flow-read :
     2
     ≡ record { id = 0x0103; priority = 0x0405; source = 6; destination = 7; flits = 0x0809; period = 0x1A1B1C1D; deadline = 0x0A0B0C0D; jitter = 0x2A2B2C2D }
 flow-read = refl
+
+-- Blanks are what zeros are read as.
+blanks : (platformAt (replicate 9 0) 0 ≡ blankPlatform) × (flowAt (replicate 23 0) 0 ≡ blankFlow)
+blanks = (refl, refl)
