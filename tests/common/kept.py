@@ -1,0 +1,51 @@
+"""What earlier runs found: a refusal by an example holds on while the mutant, the definitions that it stands among and the example's file, with those that it uses, are the same."""
+import hashlib
+import json
+import re
+
+
+class Kept:
+    def __init__(self, copy):
+        self.copy = copy
+        self.file = copy.folder / "verdicts.json"
+        self.found = json.loads(self.file.read_text()) if self.file.exists() else {}
+        self.definitions = {}
+
+    def texts_of(self, crate):
+        """The types and definitions of a crate."""
+        folder = self.copy.folder / "crates" / crate
+        return [path.read_text() for part in ("src", "specs") for path in sorted((folder / part).glob("*"))]
+
+    def definitions_of(self, crate):
+        if crate not in self.definitions:
+            below = [self.definitions_of(name) for name in self.copy.needs[crate] if name in self.copy.needs]
+            self.definitions[crate] = hashed(self.texts_of(crate) + below)
+        return self.definitions[crate]
+
+    def examples_of(self, crate, file, seen):
+        """The texts of an example's file and of those of the crate that it uses."""
+        if file in seen:
+            return []
+        seen.add(file)
+        paths = [self.copy.folder / "crates" / crate / part / (file + ".antt") for part in ("specs", "proofs")]
+        text = "".join(path.read_text() for path in paths if path.exists())
+        used = re.findall(r"^use Rattle\.%s\.proofs\.(\w+)" % crate, text, re.M)
+        return [text] + [more for name in used for more in self.examples_of(crate, name, seen)]
+
+    def stamp(self, mutant, verdict):
+        _, crate, name = verdict
+        return hashed([mutant.text, self.definitions_of(mutant.crate), self.definitions_of(crate), *self.examples_of(crate, name.split(".")[0], set())])
+
+    def verdict(self, mutant):
+        """The refusal by an example that still holds, or nothing."""
+        stamp, *verdict = self.found.get(" ".join(mutant.key), [None])
+        return tuple(verdict) if stamp and stamp == self.stamp(mutant, verdict) else None
+
+    def keep(self, mutant, verdict):
+        if verdict[0] == "example":
+            self.found[" ".join(mutant.key)] = [self.stamp(mutant, verdict), *verdict]
+            self.file.write_text(json.dumps(self.found, ensure_ascii=False, indent=0))
+
+
+def hashed(texts):
+    return hashlib.sha256("\0".join(texts).encode()).hexdigest()
