@@ -2,7 +2,7 @@
 use Prim.Native.Nat.{ℕ}
 use mathlib.Core.Path.{_≡_, refl}
 use mathlib.Core.List.{List, [], _∷_, _++_, map}
-use lib.ListN.{take, set}
+use lib.ListN.{length, take, set}
 use Rattle.framing.specs.First.{_when_else_}
 use Rattle.framing.specs.Each.{each}
 use Rattle.plan_table.specs.Table.{tagOf, sixOrSeven}
@@ -24,7 +24,8 @@ use Rattle.lines_items.specs.Decimal.{digitsBelow, decimal}
 use Rattle.lines_items.specs.Items.{item}
 use Rattle.lines_mesh.specs.Mesh.{meshStart, meshLine}
 use Rattle.lines_flow.specs.Flows.{told, flowLine, refusalLine}
-use Rattle.lines.specs.Lines.{textBy, textOf}
+use Rattle.lines.specs.Lines.{textBy, textOf, handed}
+use Rattle.lines.specs.Replied.{toldAt, recordLine, recordLines}
 
 -- The method's digit stands at the end of P's first line.
 abbrev meshOf : ℕ → List ℕ
@@ -66,3 +67,20 @@ printed = (meshOf 51 ++ flowsOfP) ∷ (meshOf 51 ++ lateText) ∷ meshOf 50 ∷ 
 texts : map textOf offered ≡ printed
 unfolding tagOf sixOrSeven priorityFlitsAt headerAt taggedAt frameAt fieldsFrom clashAt tailAt restAt _then_ bodyAt recordAt accepted refused after records readPlan _when_else_ hops along xy on domain first-from up sumOver comesToFrom comesTo methodUsed latency directFor indirectFor comesBefore those allowance weight term terms highest judged judge verdictBelow verdict answers each digitsBelow decimal item meshStart meshLine told flowLine refusalLine textBy
 texts = refl
+
+-- A text as it is handed over: two bytes, zeros up to 3,200, and how many they are.
+handing : (take 4 (handed (7 ∷ 8 ∷ []) .bytes) ≡ 7 ∷ 8 ∷ 0 ∷ 0 ∷ []) × (length (handed (7 ∷ 8 ∷ []) .bytes) ≡ 3200) × (handed (7 ∷ 8 ∷ []) .length ≡ 2)
+unfolding handed
+handing = (refl, refl, refl)
+
+-- The lines of a reply's three records: `2 bounded 62 rounds 1`, `7 late rounds 3`, `9 waits 7`.
+abbrev records-of : List ℕ
+records-of =
+    0x81 ∷ 0x00 ∷ 0x0D ∷ 0x00 ∷ 0x02 ∷ 0x00 ∷ 0xFF ∷ 0xFF ∷ 0x00 ∷ 0x00 ∷ 0x00 ∷ 0x3E ∷ 0x00 ∷ 0x00 ∷ 0x00 ∷ 0x01
+    ∷ 0x81 ∷ 0x00 ∷ 0x0D ∷ 0x00 ∷ 0x07 ∷ 0x01 ∷ 0xFF ∷ 0xFF ∷ 0x00 ∷ 0x00 ∷ 0x00 ∷ 0x00 ∷ 0x00 ∷ 0x00 ∷ 0x00 ∷ 0x03
+    ∷ 0x81 ∷ 0x00 ∷ 0x0D ∷ 0x00 ∷ 0x09 ∷ 0x02 ∷ 0x00 ∷ 0x07 ∷ 0x00 ∷ 0x00 ∷ 0x00 ∷ 0x00 ∷ 0x00 ∷ 0x00 ∷ 0x00 ∷ 0x00
+    ∷ []
+
+lines-of-records : recordLines records-of 3 ≡ 50 ∷ 32 ∷ 98 ∷ 111 ∷ 117 ∷ 110 ∷ 100 ∷ 101 ∷ 100 ∷ 32 ∷ 54 ∷ 50 ∷ 32 ∷ 114 ∷ 111 ∷ 117 ∷ 110 ∷ 100 ∷ 115 ∷ 32 ∷ 49 ∷ 10 ∷ 55 ∷ 32 ∷ 108 ∷ 97 ∷ 116 ∷ 101 ∷ 32 ∷ 114 ∷ 111 ∷ 117 ∷ 110 ∷ 100 ∷ 115 ∷ 32 ∷ 51 ∷ 10 ∷ 57 ∷ 32 ∷ 119 ∷ 97 ∷ 105 ∷ 116 ∷ 115 ∷ 32 ∷ 55 ∷ 10 ∷ []
+unfolding digitsBelow decimal item _when_else_ toldAt recordLine recordLines
+lines-of-records = refl

@@ -15,3 +15,5 @@ pub mod PriorityFlits
 pub mod Figures
 mod Examples
 mod PaperTables
+mod PaperApart
+mod Ruled

@@ -6,27 +6,31 @@ use mathlib.Core.Path.{_≡_, refl}
 use mathlib.Core.List.{List, [], _∷_, _++_, map}
 use mathlib.Core.Logic.{inl, inr}
 use lib.ListN.{take, drop, set, replicate}
+use Rattle.framing.specs.First.{_when_else_}
 use Rattle.framing.specs.Put.{put}
 use Rattle.framing.specs.Header.{Headed}
-use Rattle.plan_values.specs.Values.{flowAt, blankFlow}
+use Rattle.plan_values.specs.Values.{priorityFlitsAt, platformLength, flowAt, blankFlow}
 use Rattle.plan_values.specs.declared.Platform.{Platform}
 use Rattle.plan_values.specs.declared.Flow.{Flow}
 use Rattle.plan.specs.Legal.{LegalPlatform, LegalFlow, flow, Distinct, Legal}
 use Rattle.plan.specs.Layout.{place, Laid}
 use Rattle.plan.specs.Refusals.{Listed, of-first, of-later, of-platform, of-flow, of-flow-65, of-end}
-use Rattle.plan.specs.PlanP.{P}
-use Rattle.plan.specs.Reasons.{start, tag, size, one, two, four, nodes, Line, header-cut, unknown-tag, misplaced, wrong-length, body-cut, flow-65, columns-outside, rows-outside, link-outside, routing-outside, buffer-outside, method-outside, id-outside, priority-outside, source-outside, destination-outside, flits-outside, period-outside, deadline-zero, deadline-above, jitter-outside, source-equals-destination, id-equals-earlier, priority-equals-earlier, byte-after-end, rank, numberOf, offsetOf, EqualsEarlier, Holds}
+use Rattle.plan.specs.PlanP.{P, withSeventh}
+use Rattle.plan.specs.Reasons.{start, tag, size, one, two, four, nodes, Line, header-cut, unknown-tag, misplaced, wrong-length, body-cut, flow-65, columns-outside, rows-outside, link-outside, routing-outside, buffer-outside, method-outside, priority-flits-outside, id-outside, priority-outside, source-outside, destination-outside, flits-outside, period-outside, deadline-zero, deadline-above, jitter-outside, source-equals-destination, id-equals-earlier, priority-equals-earlier, byte-after-end, rank, numberOf, offsetOf, EqualsEarlier, Holds}
 
 -- ---- Legal
 
-abbrev platform : (columns rows link routing buffer method : ℕ) → Platform
-platform columns rows link routing buffer method = record { columns = columns; rows = rows; link = link; routing = routing; buffer = buffer; method = method }
+abbrev prioritised : (columns rows link routing buffer method flits : ℕ) → Platform
+prioritised columns rows link routing buffer method flits = record { columns = columns; rows = rows; link = link; routing = routing; buffer = buffer; method = method; «priority_flits» = flits }
 
--- "1..8 .. 1..8 .. 1..16 .. 0..16 .. 1..64 .. 0..3"
-platforms : LegalPlatform (platform 1 1 1 0 1 0) × LegalPlatform (platform 8 8 16 16 64 3)
+abbrev platform : (columns rows link routing buffer method : ℕ) → Platform
+platform columns rows link routing buffer method = prioritised columns rows link routing buffer method 0
+
+-- "1..8 .. 1..8 .. 1..16 .. 0..16 .. 1..64 .. 0..3", and priority flits up to 8
+platforms : LegalPlatform (platform 1 1 1 0 1 0) × LegalPlatform (prioritised 8 8 16 16 64 3 8)
 platforms = (
-  record { columns = (omega arith, omega arith); rows = (omega arith, omega arith); link = (omega arith, omega arith); routing = (omega arith, omega arith); buffer = (omega arith, omega arith); method = (omega arith, omega arith) },
-  record { columns = (omega arith, omega arith); rows = (omega arith, omega arith); link = (omega arith, omega arith); routing = (omega arith, omega arith); buffer = (omega arith, omega arith); method = (omega arith, omega arith) },
+  record { columns = (omega arith, omega arith); rows = (omega arith, omega arith); link = (omega arith, omega arith); routing = (omega arith, omega arith); buffer = (omega arith, omega arith); method = (omega arith, omega arith); «priority_flits» = (omega arith, omega arith) },
+  record { columns = (omega arith, omega arith); rows = (omega arith, omega arith); link = (omega arith, omega arith); routing = (omega arith, omega arith); buffer = (omega arith, omega arith); method = (omega arith, omega arith); «priority_flits» = (omega arith, omega arith) },
 )
 
 no-platforms :
@@ -40,6 +44,7 @@ no-platforms :
     × (LegalPlatform (platform 8 8 16 16 0 3) → ⊥)
     × (LegalPlatform (platform 1 1 1 0 65 0) → ⊥)
     × (LegalPlatform (platform 1 1 1 0 1 4) → ⊥)
+    × (LegalPlatform (prioritised 1 1 1 0 1 0 9) → ⊥)
 no-platforms = (
   λ w. omega (arith, w .columns .0),
   λ w. omega (arith, w .columns .1),
@@ -51,6 +56,7 @@ no-platforms = (
   λ w. omega (arith, w .buffer .0),
   λ w. omega (arith, w .buffer .1),
   λ w. omega (arith, w .method .1),
+  λ w. omega (arith, w .«priority_flits» .1),
 )
 
 abbrev flow-of : (id priority source destination flits period deadline jitter : ℕ) → Flow
@@ -117,7 +123,7 @@ legal : Legal five-by-three (take 1 two-flows)
 legal = record { platform = go-platform; few = omega arith; each = go; ids = λ j k l h e. omega (arith, l, h); priorities = λ j k l h e. omega (arith, l, h) }
   where
     go-platform : LegalPlatform five-by-three
-    go-platform = record { columns = (omega arith, omega arith); rows = (omega arith, omega arith); link = (omega arith, omega arith); routing = (omega arith, omega arith); buffer = (omega arith, omega arith); method = (omega arith, omega arith) }
+    go-platform = record { columns = (omega arith, omega arith); rows = (omega arith, omega arith); link = (omega arith, omega arith); routing = (omega arith, omega arith); buffer = (omega arith, omega arith); method = (omega arith, omega arith); «priority_flits» = (omega arith, omega arith) }
 
     go : (k : ℕ) → k < 1 → LegalFlow five-by-three (flow (take 1 two-flows) k)
     go zero h = record { id = (omega arith, omega arith); priority = (omega arith, omega arith); source = omega arith; destination = omega arith; flits = (omega arith, omega arith); period = (omega arith, omega arith); deadline = (omega arith, omega arith); jitter = (omega arith, omega arith); moves = λ e. omega (arith, e) }
@@ -139,8 +145,8 @@ not-legal = (
 
 -- ---- Layout
 
-places : map place (0 ∷ 1 ∷ 64 ∷ []) ≡ 9 ∷ 32 ∷ 1481 ∷ []
-places = refl
+places : (map (place 6) (0 ∷ 1 ∷ 64 ∷ []) ≡ 9 ∷ 32 ∷ 1481 ∷ []) × (map (place 7) (0 ∷ 1 ∷ 64 ∷ []) ≡ 10 ∷ 33 ∷ 1482 ∷ [])
+places = (refl, refl)
 
 -- "One platform record, then 0 to 64 flows, then the end record, then nothing": P without its last two flows.
 abbrev short : List ℕ
@@ -152,12 +158,19 @@ P-platform = platform 6 1 1 0 10 3
 abbrev P-flow : Flow
 P-flow = flow-of 2 1 4 5 60 200 200 0
 
+each-laid : (k : ℕ) → k < 1 → Headed short (place (platformLength P-platform) k) 0x02 20 × (flowAt short (place (platformLength P-platform) k) ≡ flow (P-flow ∷ []) k)
+unfolding platformLength _when_else_
+each-laid zero h = (record { tag-is = refl; size-is = refl }, refl)
+each-laid (suc k) h = absurd (omega (arith, h))
+
 laid : Laid short P-platform (P-flow ∷ [])
-laid = record { platform = (record { tag-is = refl; size-is = refl }, refl); each = go; end = record { tag-is = refl; size-is = refl }; nothing-else = refl }
-  where
-    go : (k : ℕ) → k < 1 → Headed short (place k) 0x02 20 × (flowAt short (place k) ≡ flow (P-flow ∷ []) k)
-    go zero h = (record { tag-is = refl; size-is = refl }, refl)
-    go (suc k) h = absurd (omega (arith, h))
+unfolding priorityFlitsAt platformLength _when_else_
+laid = record { platform = (record { tag-is = refl; size-is = refl }, refl); each = each-laid; end = record { tag-is = refl; size-is = refl }; nothing-else = refl }
+
+-- With a seventh byte of 2, and without flows.
+laid-longer : Laid (take 10 (withSeventh 2) ++ drop 78 P) (prioritised 6 1 1 0 10 3 2) []
+unfolding priorityFlitsAt platformLength _when_else_
+laid-longer = record { platform = (record { tag-is = refl; size-is = refl }, refl); each = λ k h. absurd (omega (arith, h)); end = record { tag-is = refl; size-is = refl }; nothing-else = refl }
 
 not-laid :
     (Laid (set short 0 2) P-platform (P-flow ∷ []) → ⊥)
@@ -167,6 +180,8 @@ not-laid :
     × (Laid (set short 32 1) P-platform (P-flow ∷ []) → ⊥)
     × (Laid (set short 34 1) P-platform (P-flow ∷ []) → ⊥)
     × (Laid (short ++ 0 ∷ []) P-platform (P-flow ∷ []) → ⊥)
+    × (Laid short (prioritised 6 1 1 0 10 3 2) (P-flow ∷ []) → ⊥)
+unfolding platformLength _when_else_
 not-laid = (
   λ w. omega (arith, w .platform .0 .tag-is),
   λ w. omega (arith, w .platform .0 .size-is),
@@ -175,32 +190,34 @@ not-laid = (
   λ w. omega (arith, w .end .tag-is),
   λ w. omega (arith, w .end .size-is),
   λ w. omega (arith, w .nothing-else),
+  λ w. omega (arith, w .platform .0 .size-is),
 )
 
 -- ---- Reasons
 
 -- Where records start in P, their tags and lengths, and numbers in them.
 parts :
-    (map start (0 ∷ 1 ∷ 2 ∷ 4 ∷ []) ≡ 0 ∷ 9 ∷ 32 ∷ 78 ∷ [])
+    (map (start P) (0 ∷ 1 ∷ 2 ∷ 4 ∷ []) ≡ 0 ∷ 9 ∷ 32 ∷ 78 ∷ [])
+    × (map (start (withSeventh 2)) (0 ∷ 1 ∷ 2 ∷ 4 ∷ []) ≡ 0 ∷ 10 ∷ 33 ∷ 79 ∷ [])
     × (map (tag P) (0 ∷ 1 ∷ 4 ∷ []) ≡ 0x01 ∷ 0x02 ∷ 0x7F ∷ [])
     × (map (size P) (0 ∷ 1 ∷ 4 ∷ []) ≡ 6 ∷ 20 ∷ 0 ∷ [])
     × (one P 2 8 ∷ two P 2 9 ∷ four P 2 11 ∷ nodes (set P 4 3) ∷ [] ≡ 5 ∷ 198 ∷ 4000 ∷ 18 ∷ [])
-parts = (refl, refl, refl, refl)
+parts = (refl, refl, refl, refl, refl)
 
 -- "Within a record the order is: header complete (1), 2, 4, 3, body complete (1), 6, then 5 field by field, 9, 7, 8 .. Then 10", with each one's number and place.
 abbrev in-order : List Line
 in-order =
     header-cut ∷ unknown-tag ∷ misplaced ∷ wrong-length ∷ body-cut ∷ flow-65
-    ∷ columns-outside ∷ rows-outside ∷ link-outside ∷ routing-outside ∷ buffer-outside ∷ method-outside
+    ∷ columns-outside ∷ rows-outside ∷ link-outside ∷ routing-outside ∷ buffer-outside ∷ method-outside ∷ priority-flits-outside
     ∷ id-outside ∷ priority-outside ∷ source-outside ∷ destination-outside ∷ flits-outside ∷ period-outside ∷ deadline-zero ∷ deadline-above ∷ jitter-outside
     ∷ source-equals-destination ∷ id-equals-earlier ∷ priority-equals-earlier ∷ byte-after-end ∷ []
 
 ordered :
-    (map rank in-order ≡ 0 ∷ 1 ∷ 2 ∷ 3 ∷ 4 ∷ 5 ∷ 6 ∷ 7 ∷ 8 ∷ 9 ∷ 10 ∷ 11 ∷ 12 ∷ 13 ∷ 14 ∷ 15 ∷ 16 ∷ 17 ∷ 18 ∷ 19 ∷ 20 ∷ 21 ∷ 22 ∷ 23 ∷ 24 ∷ [])
+    (map rank in-order ≡ 0 ∷ 1 ∷ 2 ∷ 3 ∷ 4 ∷ 5 ∷ 6 ∷ 7 ∷ 8 ∷ 9 ∷ 10 ∷ 11 ∷ 12 ∷ 13 ∷ 14 ∷ 15 ∷ 16 ∷ 17 ∷ 18 ∷ 19 ∷ 20 ∷ 21 ∷ 22 ∷ 23 ∷ 24 ∷ 25 ∷ [])
     × (map numberOf in-order
-    ≡ 1 ∷ 2 ∷ 4 ∷ 3 ∷ 1 ∷ 6 ∷ 20 ∷ 21 ∷ 22 ∷ 23 ∷ 24 ∷ 25 ∷ 30 ∷ 31 ∷ 32 ∷ 33 ∷ 34 ∷ 35 ∷ 36 ∷ 38 ∷ 37 ∷ 9 ∷ 7 ∷ 8 ∷ 10 ∷ [])
+    ≡ 1 ∷ 2 ∷ 4 ∷ 3 ∷ 1 ∷ 6 ∷ 20 ∷ 21 ∷ 22 ∷ 23 ∷ 24 ∷ 25 ∷ 26 ∷ 30 ∷ 31 ∷ 32 ∷ 33 ∷ 34 ∷ 35 ∷ 36 ∷ 38 ∷ 37 ∷ 9 ∷ 7 ∷ 8 ∷ 10 ∷ [])
     × (map offsetOf in-order
-    ≡ 0 ∷ 0 ∷ 0 ∷ 1 ∷ 0 ∷ 0 ∷ 3 ∷ 4 ∷ 5 ∷ 6 ∷ 7 ∷ 8 ∷ 3 ∷ 5 ∷ 7 ∷ 8 ∷ 9 ∷ 11 ∷ 15 ∷ 15 ∷ 19 ∷ 8 ∷ 3 ∷ 5 ∷ 3 ∷ [])
+    ≡ 0 ∷ 0 ∷ 0 ∷ 1 ∷ 0 ∷ 0 ∷ 3 ∷ 4 ∷ 5 ∷ 6 ∷ 7 ∷ 8 ∷ 9 ∷ 3 ∷ 5 ∷ 7 ∷ 8 ∷ 9 ∷ 11 ∷ 15 ∷ 15 ∷ 19 ∷ 8 ∷ 3 ∷ 5 ∷ 3 ∷ [])
 ordered = (refl, refl, refl)
 
 not-first : Holds P 0 misplaced → ⊥
@@ -210,6 +227,11 @@ not-first (inr w) = omega (arith, w .0)
 not-later : Holds P 1 misplaced → ⊥
 not-later (inl w) = omega (arith, w .0)
 not-later (inr w) = omega (arith, w .1)
+
+sevens : Holds (withSeventh 2) 0 wrong-length → ⊥
+sevens (inl w) = w .2 refl
+sevens (inr (inl w)) = omega (arith, w .0)
+sevens (inr (inr w)) = omega (arith, w .0)
 
 sixes : Holds P 0 wrong-length → ⊥
 sixes (inl w) = w .1 refl
@@ -232,17 +254,19 @@ holds-frames :
     × Holds (set P 9 0x03) 1 unknown-tag
     × Holds (drop 9 P) 0 misplaced
     × Holds (take 9 P ++ P) 1 misplaced
-    × Holds (set P 2 7) 0 wrong-length
+    × Holds (set P 2 5) 0 wrong-length
+    × Holds (set P 2 8) 0 wrong-length
     × Holds (set P 11 21) 1 wrong-length
     × Holds (set P 80 1) 4 wrong-length
     × Holds (take 31 P) 1 body-cut
-    × Holds (replicate 1482 0x02) 65 flow-65
+    × Holds (replicate 1990 0x02) 65 flow-65
 holds-frames = (
   omega arith,
   (λ e. omega (arith, e), λ e. omega (arith, e), λ e. omega (arith, e)),
   inl (refl, λ e. omega (arith, e)),
   inr (omega arith, refl),
-  inl (refl, λ e. omega (arith, e)),
+  inl (refl, λ e. omega (arith, e), λ e. omega (arith, e)),
+  inl (refl, λ e. omega (arith, e), λ e. omega (arith, e)),
   inr (inl (refl, λ e. omega (arith, e))),
   inr (inr (refl, λ e. omega (arith, e))),
   omega arith,
@@ -257,10 +281,11 @@ not-frames :
     × (Holds P 0 misplaced → ⊥)
     × (Holds P 1 misplaced → ⊥)
     × (Holds P 0 wrong-length → ⊥)
+    × (Holds (withSeventh 2) 0 wrong-length → ⊥)
     × (Holds P 1 wrong-length → ⊥)
     × (Holds P 4 wrong-length → ⊥)
     × (Holds (take 32 P) 1 body-cut → ⊥)
-    × (Holds (replicate 1482 0x02) 64 flow-65 → ⊥)
+    × (Holds (replicate 1990 0x02) 64 flow-65 → ⊥)
 not-frames = (
   λ w. omega (arith, w),
   λ w. w .0 refl,
@@ -269,6 +294,7 @@ not-frames = (
   not-first,
   not-later,
   sixes,
+  sevens,
   twenties,
   zeros,
   λ w. omega (arith, w),
@@ -287,6 +313,8 @@ holds-platform-fields :
     × Holds (set P 7 0) 0 buffer-outside
     × Holds (set P 7 65) 0 buffer-outside
     × Holds (set P 8 4) 0 method-outside
+    × Holds (withSeventh 0) 0 priority-flits-outside
+    × Holds (withSeventh 9) 0 priority-flits-outside
 holds-platform-fields = (
   (refl, λ w. omega (arith, w .0)),
   (refl, λ w. omega (arith, w .1)),
@@ -298,6 +326,8 @@ holds-platform-fields = (
   (refl, λ w. omega (arith, w .0)),
   (refl, λ w. omega (arith, w .1)),
   (refl, λ w. omega (arith, w .1)),
+  (refl, refl, λ w. omega (arith, w .0)),
+  (refl, refl, λ w. omega (arith, w .1)),
 )
 
 not-platform-fields :
@@ -313,6 +343,9 @@ not-platform-fields :
     × (Holds (set P 7 64) 0 buffer-outside → ⊥)
     × (Holds (set P 8 0) 0 method-outside → ⊥)
     × (Holds (set P 8 3) 0 method-outside → ⊥)
+    × (Holds (withSeventh 1) 0 priority-flits-outside → ⊥)
+    × (Holds (withSeventh 8) 0 priority-flits-outside → ⊥)
+    × (Holds P 0 priority-flits-outside → ⊥)
 not-platform-fields = (
   λ w. w .1 (omega arith, omega arith),
   λ w. w .1 (omega arith, omega arith),
@@ -326,6 +359,9 @@ not-platform-fields = (
   λ w. w .1 (omega arith, omega arith),
   λ w. w .1 (omega arith, omega arith),
   λ w. w .1 (omega arith, omega arith),
+  λ w. w .2 (omega arith, omega arith),
+  λ w. w .2 (omega arith, omega arith),
+  λ w. omega (arith, w .1),
 )
 
 -- The first flow's, in the same way; its nodes are 0 to 5, and its period is 200.
@@ -424,5 +460,9 @@ others :
 others = (λ w. omega (arith, w .0), λ w. omega (arith, w .0), λ w. omega (arith, w .0))
 
 -- Where a refusal may stand: the last places of each kind of record.
-listed : Listed 3 1 × Listed 1 1481 × Listed 25 8 × Listed 37 1477 × Listed 6 1481 × Listed 10 1484
+listed : Listed 6 3 1 × Listed 6 1 1481 × Listed 6 25 8 × Listed 6 37 1477 × Listed 6 6 1481 × Listed 6 10 1484
 listed = (of-first 3 1 refl, of-later 64 1 0 (omega arith) refl, of-platform 25 8 refl, of-flow 63 37 19 (omega arith) refl, of-flow-65, of-end 64 10 3 (omega arith) refl)
+
+-- .. and behind a platform record of seven bytes.
+listed-moved : Listed 7 26 9 × Listed 7 1 1482 × Listed 7 37 1478 × Listed 7 6 1482 × Listed 7 10 1485
+listed-moved = (of-platform 26 9 refl, of-later 64 1 0 (omega arith) refl, of-flow 63 37 19 (omega arith) refl, of-flow-65, of-end 64 10 3 (omega arith) refl)

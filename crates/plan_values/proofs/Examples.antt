@@ -38,4 +38,5 @@ flow-read = refl
 
 -- Blanks are what zeros are read as.
 blanks : (platformAt (replicate 9 0) 0 ≡ blankPlatform) × (flowAt (replicate 23 0) 0 ≡ blankFlow)
+unfolding priorityFlitsAt _when_else_
 blanks = (refl, refl)

@@ -1,22 +1,25 @@
 -- Plan P written from its numbers, and refusals with their exact places, computed.
-use Prim.Native.Nat.{ℕ}
-use mathlib.Core.Path.{_≡_, refl}
-use mathlib.Core.List.{List, [], _∷_}
+use Prim.Native.Nat.{ℕ, zero, suc, _<_}
+use native.Mathlib.Omega.{arith}
+use mathlib.Core.Path.{_≡_, refl, ap}
+use mathlib.Core.List.{List, [], _∷_, _++_}
 use lib.ListN.{set, replicate}
 use Rattle.framing.specs.Each.{each}
 use Rattle.framing.specs.First.{_when_else_}
 use Rattle.framing.specs.Returned.{refusedWith, acceptedWith, roomFor, putInto, returnedBy, leftBy}
 use Rattle.framing.specs.declared.returned.Returned.{Returned}
-use Rattle.plan_table.specs.Table.{tagOf, sixOrSeven}
-use Rattle.plan_values.specs.Values.{priorityFlitsAt, platformLength}
+use Rattle.plan_table.specs.Table.{tagOf, sixOrSeven, flowFields}
+use Rattle.plan_values.specs.Values.{priorityFlitsAt, platformLength, blankFlow}
 use Rattle.plan_checks.specs.Checks.{headerAt, taggedAt, frameAt, clashAt, tailAt, restAt}
 use Rattle.plan.specs.Records.{fieldsFrom, _then_, bodyAt, recordAt}
 use Rattle.plan.specs.Reading.{accepted, refused, after, records, readPlan}
 use Rattle.plan.specs.PlanP.{P, withSeventh}
+use Rattle.plan.specs.Legal.{flow}
 use Rattle.plan_values.specs.declared.Platform.{Platform}
 use Rattle.plan_values.specs.declared.Flow.{Flow}
-use Rattle.writer_bytes.specs.PlanBytes.{platformBytes, flowBytes, planBytes}
-use Rattle.writer.specs.Written.{returned, left}
+use Rattle.writer_bytes.specs.PlanBytes.{flowValues, platformBytes, flowBytes, planBytes}
+use Rattle.writer.specs.Written.{listed, returned, left, GivenBack}
+use Rattle.writer.specs.Fits.{Fits, FitsEach}
 
 -- P's platform, with other flits of a buffer or another method, and so many priority flits.
 prioritised : ℕ → ℕ → ℕ → Platform
@@ -107,3 +110,36 @@ lefts = refl
 left-alone : left (platform 10 4) [] (replicate 14 0xA5) ≡ replicate 14 0xA5
 unfolding tagOf sixOrSeven priorityFlitsAt platformLength headerAt taggedAt frameAt fieldsFrom clashAt tailAt restAt _then_ bodyAt recordAt accepted refused after records readPlan _when_else_ platformBytes flowBytes each leftBy putInto prioritised platform
 left-alone = refl
+
+-- "a platform, a list of flows": the first so many of the array, and a blank for each flow behind the 64th.
+lists : (listed flows 2 ≡ first 200 ∷ second 3 5 ∷ []) × (listed (first 200 ∷ []) 64 ≡ first 200 ∷ []) × (listed (first 200 ∷ []) 66 ≡ first 200 ∷ blankFlow ∷ blankFlow ∷ [])
+unfolding first second third flows
+lists = (refl, refl, refl)
+
+-- "Every value has its field's width": the largest of each, and one more.
+fits : Fits flowFields (65535 ∷ 65535 ∷ 255 ∷ 255 ∷ 65535 ∷ 4294967295 ∷ 4294967295 ∷ 4294967295 ∷ [])
+fits = (omega arith, (omega arith, (omega arith, (omega arith, (omega arith, (omega arith, (omega arith, (omega arith, tt))))))))
+
+fits-not :
+    (Fits flowFields (65536 ∷ []) → ⊥)
+    × (Fits flowFields (0 ∷ 0 ∷ 256 ∷ []) → ⊥)
+    × (Fits flowFields (0 ∷ 0 ∷ 0 ∷ 0 ∷ 0 ∷ 4294967296 ∷ []) → ⊥)
+fits-not = (λ w. omega (arith, w .0), λ w. omega (arith, w .1 .1 .0), λ w. omega (arith, w .1 .1 .1 .1 .1 .0))
+
+fits-each : FitsEach (first 200 ∷ [])
+unfolding first
+fits-each zero h = (omega arith, (omega arith, (omega arith, (omega arith, (omega arith, (omega arith, (omega arith, (omega arith, tt))))))))
+fits-each (suc k) h = absurd (omega (arith, h))
+
+fits-each-not : FitsEach (second 65536 5 ∷ []) → ⊥
+unfolding second
+fits-each-not w = omega (arith, w 0 (omega arith) .0)
+
+-- "Reading the written bytes gives back the same platform and flows": P's, with a byte behind them; a refusal says nothing of the bytes.
+given-back : GivenBack (platform 10 3) flows (acceptedWith 81) (P ++ 0xA5 ∷ []) × GivenBack (platform 10 3) flows (refusedWith 11 0) []
+unfolding tagOf sixOrSeven priorityFlitsAt headerAt taggedAt frameAt fieldsFrom clashAt tailAt restAt _then_ bodyAt recordAt accepted refused after records readPlan _when_else_ prioritised platform first second third flows
+given-back = (record { same = λ e. refl }, record { same = λ e. absurd (omega (arith, e)) })
+
+given-back-not : GivenBack (platform 11 3) flows (acceptedWith 81) P → ⊥
+unfolding tagOf sixOrSeven priorityFlitsAt headerAt taggedAt frameAt fieldsFrom clashAt tailAt restAt _then_ bodyAt recordAt accepted refused after records readPlan _when_else_ prioritised platform first second third flows
+given-back-not w = omega (arith, ap (λ r. r .plan .platform .buffer) (w .same refl))
