@@ -1,4 +1,46 @@
-"""The mutants that are known to be equal in meaning, by crate and definition, then by change, with the reason."""
+"""The mutants that are known to be equal in meaning: by crate and definition, then by change, with the reason. A proof's text may not fit them, an example may not refuse them."""
+
+ORDER_OF_LINES = "the list is only asked whether it has a line"
+APART = "no number passes both tests, so their order does not matter"
+NEVER_READ = "stands behind the last line of the table, which nothing reads"
+TURNS = "a plan's bytes never use up the turns (`Fuel.turns-enough`)"
+ORDERS = "equal orders do not occur: a k in S_j^D and not in S_i^D shares no link with i"
+PRIORITIES = "no two flows of a plan have one priority"
+FOLLOWS = "that the run begins at the first place follows from where it stands on the two routes; where none is shared it may be said to begin at 0"
 
 REASONS = {
+    "plan_table Refusals.recordRefusals": {"`(1, 0)` ↔ `(2, 0)`": ORDER_OF_LINES},
+    "plan_table Refusals.platformRefusals": {"`(20, 3)` ↔ `(21, 4)`": ORDER_OF_LINES},
+    "plan_table Refusals.flowRefusals": {"`(7, 3)` ↔ `(8, 5)`": ORDER_OF_LINES},
+    "plan_table Table.tagOf": {"`Known PlatformRecord when eqb byte 0x01` ↔ `Known FlowRecord when eqb byte 0x02`": APART},
+    "plan_table Table.noField": {"`, 0,` → `, 1,`": NEVER_READ, "`(One,` → `(Two,`": NEVER_READ},
+    "plan_checks Checks.headerAt": {"`(eqb at` → `(leb at`": "a place not above 0 is 0"},
+    "plan Reading.records": {"`refused 1 at` → `refused 2 at`": TURNS, "`1 at` → `1 zero`": TURNS, "`1` ↔ `at`": TURNS},
+    "writer Fits.FitsEach": {"`k < length` → `k ≤ length`": "behind the list stands a blank flow, whose zeros fit"},
+    "mesh Mesh.along": {"`hops (λ k. up (u + k)) (v - u)` ↔ `hops (λ k. down (u - k)) (u - v)`": "one of the two stretches is empty"},
+    "mesh Shared.shared-count": {"`a` ↔ `b`": "two routes share as many links either way round (`Theorems.count-symmetric`)"},
+    "mesh Shared.OneRun": {
+        "`a` ↔ `b`": "what the two routes share is the same either way round, by `same-order` beside it",
+        "`: 0 <` → `: 1 <`": FOLLOWS, "`0 < shared-count` → `0 ≤ shared-count`": FOLLOWS, "`0` ↔ `shared-count a b`": FOLLOWS,
+    },
+    "mesh Shared.Sides": {"`k < first-shared` → `k ≤ first-shared`": "by `after` beside it the two first places differ"},
+    "recurrence ComesTo.comesToFrom": {"`Late k` → `Late zero`": "the fuel is never used up"},
+    "model Latency.methodUsed": {"`SB when eqb (p .method) 1` ↔ `XLWX when eqb (p .method) 2`": APART},
+    "model Delays.buffered": {"`i` ↔ `j`": "two flows share as many links either way round (`mesh` `Theorems.count-symmetric`)"},
+    "model Links.pairOf": {"`(routeOf p i)` ↔ `(routeOf p j)`": "two flows share as many links either way round (`mesh` `Theorems.count-symmetric`)"},
+    "model PaperEquations.⌈_÷_⌉": {"`(eqb (` → `(leb (`": "a rest not above 0 is 0"},
+    "model PaperEquations.bi₇": {"`i` ↔ `j`": "two flows share as many links either way round (`mesh` `Theorems.count-symmetric`)"},
+    "model PaperSets.cd": {"`(route p i)` ↔ `(route p j)`": "what two routes share is the same either way round, in the same order (`mesh` `Theorems.one-run`)"},
+    "model PaperSets.order": {"`= 0` → `= 1`": "it is asked of a link on the route alone"},
+    "model PaperSets.first": {"`= 0` → `= 1`": "it is asked of a domain with links alone"},
+    "model PaperSets.Sᵘᵖ": {"`&& ltb (` → `&& leb (`": ORDERS},
+    "model PaperSets.Sᵈᵒʷⁿ": {"`&& ltb (` → `&& leb (`": ORDERS},
+    "model Interference.comesBefore": {
+        "`= ltb (` → `= leb (`": "it is asked of a k that is direct for j and not for i; that shares no link with i, so the two first places differ (`Sides.sides-exactly`)",
+    },
+    "model Verdicts.higher": {"`(ltb (` → `(leb (`": PRIORITIES},
+    "model Verdicts.highest": {"`g` ↔ `f`": PRIORITIES},
+    "model Verdicts.verdictBelow": {"`Late 0` → `Late 1`": "no flow has a priority number below 0"},
+    "model Verdicts.verdict": {"`(suc (` → `( (`": "a priority number is 1 or more, and so is that of each flow on the way down: one turn less is enough"},
+    "reply Records.verdictBy": {"`Bounded bound rounds when eqb number 0` ↔ `Late rounds when eqb number 1`": APART},
 }

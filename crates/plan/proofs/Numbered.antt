@@ -1,5 +1,5 @@
 -- The numbers of refusals that are listed: 0 is acceptance's, 5 was split by fields, and 11 is the lent buffer's.
-use Prim.Native.Nat.{ℕ, _≤_}
+use Prim.Native.Nat.{ℕ, _+_, _≤_}
 use native.Mathlib.Omega.{arith}
 use mathlib.Core.Path.{_≡_, refl, sym, ap, _∙_}
 use mathlib.Core.Bool.{Bool, true, false, false≢true}
