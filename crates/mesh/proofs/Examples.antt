@@ -44,8 +44,8 @@ node-13 :
     × (spotsOf 5 13 4 ≡ record { source = record { row = 2; column = 3 }; destination = record { row = 0; column = 4 } })
 node-13 = (refl, refl, refl)
 
--- The number of each link of the node in row 2 and column 3: its kind, its line and the place on that.
-link-numbers : injection 2 3 ∷ east 2 3 ∷ west 2 3 ∷ south 2 3 ∷ north 2 3 ∷ ejection 2 3 ∷ [] ≡ 19 ∷ 83 ∷ 147 ∷ 218 ∷ 282 ∷ 339 ∷ []
+-- The number of each link of the node in row 6 and column 7: its kind, its line and the place on that.
+link-numbers : injection 6 7 ∷ east 6 7 ∷ west 6 7 ∷ south 6 7 ∷ north 6 7 ∷ ejection 6 7 ∷ [] ≡ 55 ∷ 119 ∷ 183 ∷ 254 ∷ 318 ∷ 375 ∷ []
 link-numbers = refl
 
 -- Hops along a line, both ways: those of a row have kinds 1 and 2, those of a column 3 and 4.
@@ -76,9 +76,10 @@ on-mesh = record { rows = (omega arith, omega arith); columns = (omega arith, om
 off-mesh : (OnMesh (spots 8 0 0 0) → ⊥) × (OnMesh (spots 0 8 0 0) → ⊥) × (OnMesh (spots 0 0 8 0) → ⊥) × (OnMesh (spots 0 0 0 8) → ⊥)
 off-mesh = (λ w. omega (arith, w .rows .0), λ w. omega (arith, w .columns .0), λ w. omega (arith, w .rows .1), λ w. omega (arith, w .columns .1))
 
--- "below columns x rows": the last node of 8 rows with 8 columns, with 2 and with 1, and the next.
-nodes : Node 8 63 × Node 2 15 × Node 1 7
+-- "below columns x rows": the last node of 8 rows with 8 columns, with 2 and with 1, and the next; and the first.
+nodes : Node 8 63 × Node 2 15 × Node 1 7 × Node 1 0
 nodes = (
+  record { rows = 8; wide = (omega arith, omega arith); high = omega arith; inside = omega arith },
   record { rows = 8; wide = (omega arith, omega arith); high = omega arith; inside = omega arith },
   record { rows = 8; wide = (omega arith, omega arith); high = omega arith; inside = omega arith },
   record { rows = 8; wide = (omega arith, omega arith); high = omega arith; inside = omega arith },

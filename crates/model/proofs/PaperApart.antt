@@ -52,6 +52,14 @@ crossing-solves :
 unfolding hops along xy on domain C order someOf sum Sᴰ Sᴵ Sᵘᵖ Sᵈᵒʷⁿ ⌈_÷_⌉ byId
 crossing-solves = (refl, refl, refl, refl, refl, refl)
 
+-- With one cycle more of jitter, the windows of the bounds before hold two packets of τ_7: 72 + 2 x 66 + 24, 72 + 2 x 173 + 24 and 72 + 2 x 204 + 24.
+abbrev of-nine : Method → ℕ → ℕ → ℕ → ℕ → ℕ
+of-nine analysis J r s x = equationOf mesh (crossing J) (byId (crossing J) (bounds r s)) analysis nine x
+
+second-packets : (of-nine SB 821 274 228 162 ≡ 228) × (of-nine XLWX 845 294 466 269 ≡ 442) × (of-nine IBN 559 398 528 300 ≡ 504)
+unfolding hops along xy on domain C order someOf sum Sᴰ Sᴵ Sᵘᵖ Sᵈᵒʷⁿ ⌈_÷_⌉ byId
+second-packets = (refl, refl, refl)
+
 -- (1): two packets of τ_7, whose C is 66, in a window of 633, and two of τ_5, whose C is 24. (8): 2 + 3 hits at 28; (9): 2 hits at 27 and 3 at 28.
 sums :
     (Iᴰ₁ mesh (crossing 558) (byId (crossing 558) (bounds 398 300)) nine 633 ≡ 180)

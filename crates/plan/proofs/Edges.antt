@@ -16,7 +16,7 @@ use Rattle.plan.specs.Legal.{LegalPlatform, LegalFlow, flow, Distinct, L
 use Rattle.plan.specs.Layout.{place, Laid}
 use Rattle.plan.specs.Refusals.{Listed, of-first, of-later, of-platform, of-flow, of-flow-65, of-end}
 use Rattle.plan.specs.PlanP.{P, withSeventh}
-use Rattle.plan.specs.Reasons.{start, tag, size, one, two, four, nodes, Line, header-cut, unknown-tag, misplaced, wrong-length, body-cut, flow-65, columns-outside, rows-outside, link-outside, routing-outside, buffer-outside, method-outside, priority-flits-outside, id-outside, priority-outside, source-outside, destination-outside, flits-outside, period-outside, deadline-zero, deadline-above, jitter-outside, source-equals-destination, id-equals-earlier, priority-equals-earlier, byte-after-end, rank, numberOf, offsetOf, EqualsEarlier, Holds}
+use Rattle.plan.specs.Reasons.{start, tag, size, one, two, four, nodes, Line, header-cut, unknown-tag, misplaced, wrong-length, body-cut, flow-65, columns-outside, rows-outside, link-outside, routing-outside, buffer-outside, method-outside, priority-flits-outside, id-outside, priority-outside, source-outside, destination-outside, flits-outside, period-outside, deadline-zero, deadline-above, jitter-outside, source-equals-destination, id-equals-earlier, priority-equals-earlier, byte-after-end, rank, numberOf, offsetOf, EqualsEarlier, Holds, RefusedBecause}
 
 -- ---- Legal
 
@@ -453,6 +453,39 @@ not-rests = (
   λ w. no-priority-earlier (w .1),
   λ w. omega (arith, w .1),
 )
+
+-- Of P with another length of its platform record, that is the reason: 3 at 1. No line before it in the order holds.
+no-line-before : (l : Line) → rank l < 3 → Holds (set P 2 7) 0 l → ⊥
+no-line-before header-cut h w = omega (arith, w)
+no-line-before unknown-tag h w = w .0 refl
+no-line-before misplaced h (inl w) = w .1 refl
+no-line-before misplaced h (inr w) = omega (arith, w .0)
+no-line-before wrong-length h w = omega (arith, h)
+no-line-before body-cut h w = omega (arith, h)
+no-line-before flow-65 h w = omega (arith, h)
+no-line-before columns-outside h w = omega (arith, h)
+no-line-before rows-outside h w = omega (arith, h)
+no-line-before link-outside h w = omega (arith, h)
+no-line-before routing-outside h w = omega (arith, h)
+no-line-before buffer-outside h w = omega (arith, h)
+no-line-before method-outside h w = omega (arith, h)
+no-line-before id-outside h w = omega (arith, h)
+no-line-before priority-outside h w = omega (arith, h)
+no-line-before source-outside h w = omega (arith, h)
+no-line-before destination-outside h w = omega (arith, h)
+no-line-before flits-outside h w = omega (arith, h)
+no-line-before period-outside h w = omega (arith, h)
+no-line-before deadline-zero h w = omega (arith, h)
+no-line-before deadline-above h w = omega (arith, h)
+no-line-before jitter-outside h w = omega (arith, h)
+no-line-before source-equals-destination h w = omega (arith, h)
+no-line-before id-equals-earlier h w = omega (arith, h)
+no-line-before priority-equals-earlier h w = omega (arith, h)
+no-line-before byte-after-end h w = omega (arith, h)
+
+reason : RefusedBecause (set P 2 7) 3 1
+reason =
+    record { n = 0; before = λ m h. absurd (omega (arith, h)); line = wrong-length; holds = inl (refl, λ e. omega (arith, e)); first = no-line-before; number-is = refl; place-is = refl }
 
 -- No line of another record's kind holds of a record: of the platform, of a flow and of the end record.
 others :

@@ -156,8 +156,8 @@ unfolding replaced
 values = refl
 
 -- "until the new value equals the old or is above the deadline"
-last : Last (λ x. 5) 9 5 × Last (λ x. x + x) 5 3
-last = (inl refl, inr (omega arith))
+last : Last (λ x. 5) 9 5 × Last (λ x. x) 9 3 × Last (λ x. x + x) 5 3
+last = (inl refl, inl refl, inr (omega arith))
 
 not-last : Last (λ x. x + x) 6 3 → ⊥
 not-last (inl e) = omega (arith, e)
