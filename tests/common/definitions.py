@@ -365,13 +365,10 @@ def said(text, kind, replacements):
     return "`%s` → `%s`" % (plain_text(text[left:right]), plain_text(text[left:start] + new + text[end:right]))
 
 
-def thinned(changes, most):
-    """Of more than so many changes of one kind in one definition, every second, third .., so that no more are left."""
-    by_kind = {}
-    for change in changes:
-        by_kind.setdefault(change[0], []).append(change)
-    for alike in by_kind.values():
-        yield from alike[::-(-len(alike) // most)]
+def spread(alike, most):
+    """The same, those first of which there are so many, evenly spread over all."""
+    step = -(-len(alike) // most)
+    return alike[::step] + [one for k, one in enumerate(alike) if k % step]
 
 
 def signatures_of(texts):
@@ -409,9 +406,11 @@ def distinct(text, changes):
             yield kind, change + (" (%d)" % counts[change] if counts[change] > 1 else ""), changed, " ".join(new for _, _, new in replacements)
 
 
-def mutants_of(crate, files, signatures, most):
-    """The mutants of a crate: files is {name: text} of its specs/."""
+def mutants_of(crate, files, signatures):
+    """The mutants of a crate, in a list for each definition and kind: files is {name: text} of its specs/."""
     for file, text in files.items():
         for definition in definitions_of(file, text):
-            for kind, change, changed, brought in thinned(distinct(text, changes_of(text, definition, signatures)), most):
-                yield Mutant(crate, file, definition.name, kind, change, imported(changed, brought, crate))
+            by_kind = {}
+            for kind, change, changed, brought in distinct(text, changes_of(text, definition, signatures)):
+                by_kind.setdefault(kind, []).append(Mutant(crate, file, definition.name, kind, change, imported(changed, brought, crate)))
+            yield from by_kind.values()

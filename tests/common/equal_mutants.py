@@ -5,6 +5,7 @@ APART = "no number passes both tests, so their order does not matter"
 NEVER_READ = "stands behind the last line of the table, which nothing reads"
 TURNS = "a plan's bytes never use up the turns (`Fuel.turns-enough`)"
 ORDERS = "equal orders do not occur: a k in S_j^D and not in S_i^D shares no link with i"
+SYMMETRIC = "two routes share as many links either way round (`mesh` `Theorems.count-symmetric`)"
 PRIORITIES = "no two flows of a plan have one priority"
 FOLLOWS = "that the run begins at the first place follows from where it stands on the two routes; where none is shared it may be said to begin at 0"
 
@@ -16,20 +17,23 @@ REASONS = {
     "plan_table Table.noField": {"`, 0,` → `, 1,`": NEVER_READ, "`(One,` → `(Two,`": NEVER_READ},
     "plan_checks Checks.headerAt": {"`(eqb at` → `(leb at`": "a place not above 0 is 0"},
     "plan Reading.records": {"`refused 1 at` → `refused 2 at`": TURNS, "`1 at` → `1 zero`": TURNS, "`1` ↔ `at`": TURNS},
+    "plan Reading.readPlan": {"`(suc (` → `( (`": "a turn takes 3 bytes, so that one turn less is enough; of no bytes both say 1 at 0"},
     "writer Fits.FitsEach": {"`k < length` → `k ≤ length`": "behind the list stands a blank flow, whose zeros fit"},
     "mesh Mesh.along": {"`hops (λ k. up (u + k)) (v - u)` ↔ `hops (λ k. down (u - k)) (u - v)`": "one of the two stretches is empty"},
-    "mesh Shared.shared-count": {"`a` ↔ `b`": "two routes share as many links either way round (`Theorems.count-symmetric`)"},
+    "mesh Shared.shared-count": {"`a` ↔ `b`": SYMMETRIC},
     "mesh Shared.OneRun": {
         "`a` ↔ `b`": "what the two routes share is the same either way round, by `same-order` beside it",
         "`: 0 <` → `: 1 <`": FOLLOWS, "`0 < shared-count` → `0 ≤ shared-count`": FOLLOWS, "`0` ↔ `shared-count a b`": FOLLOWS,
     },
+    "mesh Shared.Shares": {"`a` ↔ `b`": SYMMETRIC},
+    "mesh Shared.AllBefore": {"`p 0)` → `p 1)`": "p is a place on the route, so that what stands behind its end is not read"},
     "mesh Shared.Sides": {"`k < first-shared` → `k ≤ first-shared`": "by `after` beside it the two first places differ"},
     "recurrence ComesTo.comesToFrom": {"`Late k` → `Late zero`": "the fuel is never used up"},
     "model Latency.methodUsed": {"`SB when eqb (p .method) 1` ↔ `XLWX when eqb (p .method) 2`": APART},
-    "model Delays.buffered": {"`i` ↔ `j`": "two flows share as many links either way round (`mesh` `Theorems.count-symmetric`)"},
-    "model Links.pairOf": {"`(routeOf p i)` ↔ `(routeOf p j)`": "two flows share as many links either way round (`mesh` `Theorems.count-symmetric`)"},
+    "model Delays.buffered": {"`i` ↔ `j`": SYMMETRIC},
+    "model Links.pairOf": {"`(routeOf p i)` ↔ `(routeOf p j)`": SYMMETRIC},
     "model PaperEquations.⌈_÷_⌉": {"`(eqb (` → `(leb (`": "a rest not above 0 is 0"},
-    "model PaperEquations.bi₇": {"`i` ↔ `j`": "two flows share as many links either way round (`mesh` `Theorems.count-symmetric`)"},
+    "model PaperEquations.bi₇": {"`i` ↔ `j`": SYMMETRIC},
     "model PaperSets.cd": {"`(route p i)` ↔ `(route p j)`": "what two routes share is the same either way round, in the same order (`mesh` `Theorems.one-run`)"},
     "model PaperSets.order": {"`= 0` → `= 1`": "it is asked of a link on the route alone"},
     "model PaperSets.first": {"`= 0` → `= 1`": "it is asked of a domain with links alone"},

@@ -1,14 +1,15 @@
-"""What earlier runs found: a refusal by an example holds on while the mutant, the definitions that it stands among and the example's file, with those that it uses, are the same."""
+"""What earlier runs found: that a change does not fit the types holds on while the definitions are the same, a refusal by an example while the example's file is, too, and those that it uses."""
 import hashlib
 import json
 import re
 
 
 class Kept:
-    def __init__(self, copy):
+    def __init__(self, copy, fresh):
         self.copy = copy
+        self.fresh = fresh
         self.file = copy.folder / "verdicts.json"
-        self.found = json.loads(self.file.read_text()) if self.file.exists() else {}
+        self.found = json.loads(self.file.read_text()) if self.file.exists() and not fresh else {}
         self.definitions = {}
 
     def texts_of(self, crate):
@@ -33,16 +34,18 @@ class Kept:
         return [text] + [more for name in used for more in self.examples_of(crate, name, seen)]
 
     def stamp(self, mutant, verdict):
-        _, crate, name = verdict
+        kind, crate, name = verdict
+        if kind == "no mutant":
+            return hashed([mutant.text, self.definitions_of(mutant.crate)])
         return hashed([mutant.text, self.definitions_of(mutant.crate), self.definitions_of(crate), *self.examples_of(crate, name.split(".")[0], set())])
 
     def verdict(self, mutant):
-        """The refusal by an example that still holds, or nothing."""
+        """What was found and still holds: a refusal by an example, or that the types do not fit; or nothing."""
         stamp, *verdict = self.found.get(" ".join(mutant.key), [None])
         return tuple(verdict) if stamp and stamp == self.stamp(mutant, verdict) else None
 
     def keep(self, mutant, verdict):
-        if verdict[0] == "example":
+        if verdict[0] in ("example", "no mutant"):
             self.found[" ".join(mutant.key)] = [self.stamp(mutant, verdict), *verdict]
             self.file.write_text(json.dumps(self.found, ensure_ascii=False, indent=0))
 
