@@ -455,7 +455,7 @@ not-rests = (
 )
 
 -- Of P with another length of its platform record, that is the reason: 3 at 1. No line before it in the order holds.
-no-line-before : (l : Line) → rank l < 3 → Holds (set P 2 7) 0 l → ⊥
+no-line-before : (l : Line) → rank l < 3 → Holds (set P 2 8) 0 l → ⊥
 no-line-before header-cut h w = omega (arith, w)
 no-line-before unknown-tag h w = w .0 refl
 no-line-before misplaced h (inl w) = w .1 refl
@@ -469,6 +469,7 @@ no-line-before link-outside h w = omega (arith, h)
 no-line-before routing-outside h w = omega (arith, h)
 no-line-before buffer-outside h w = omega (arith, h)
 no-line-before method-outside h w = omega (arith, h)
+no-line-before priority-flits-outside h w = omega (arith, h)
 no-line-before id-outside h w = omega (arith, h)
 no-line-before priority-outside h w = omega (arith, h)
 no-line-before source-outside h w = omega (arith, h)
@@ -483,9 +484,9 @@ no-line-before id-equals-earlier h w = omega (arith, h)
 no-line-before priority-equals-earlier h w = omega (arith, h)
 no-line-before byte-after-end h w = omega (arith, h)
 
-reason : RefusedBecause (set P 2 7) 3 1
+reason : RefusedBecause (set P 2 8) 3 1
 reason =
-    record { n = 0; before = λ m h. absurd (omega (arith, h)); line = wrong-length; holds = inl (refl, λ e. omega (arith, e)); first = no-line-before; number-is = refl; place-is = refl }
+    record { n = 0; before = λ m h. absurd (omega (arith, h)); line = wrong-length; holds = inl (refl, λ e. omega (arith, e), λ e. omega (arith, e)); first = no-line-before; number-is = refl; place-is = refl }
 
 -- No line of another record's kind holds of a record: of the platform, of a flow and of the end record.
 others :
