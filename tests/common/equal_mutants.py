@@ -10,6 +10,7 @@ PRIORITIES = "no two flows of a plan have one priority"
 FOLLOWS = "that the run begins at the first place follows from where it stands on the two routes; where none is shared it may be said to begin at 0"
 
 REASONS = {
+    "plan_values Values.platformLength": {"`when eqb (` → `when leb (`": "priority flits not above 0 are 0"},
     "plan_table Refusals.recordRefusals": {"`(1, 0)` ↔ `(2, 0)`": ORDER_OF_LINES},
     "plan_table Refusals.platformRefusals": {"`(20, 3)` ↔ `(21, 4)`": ORDER_OF_LINES},
     "plan_table Refusals.flowRefusals": {"`(7, 3)` ↔ `(8, 5)`": ORDER_OF_LINES},
