@@ -494,9 +494,9 @@ others :
 others = (λ w. omega (arith, w .0), λ w. omega (arith, w .0), λ w. omega (arith, w .0))
 
 -- Where a refusal may stand: the last places of each kind of record.
-listed : Listed 6 3 1 × Listed 6 1 1481 × Listed 6 25 8 × Listed 6 37 1477 × Listed 6 6 1481 × Listed 6 10 1484
-listed = (of-first 3 1 refl, of-later 64 1 0 (omega arith) refl, of-platform 25 8 refl, of-flow 63 37 19 (omega arith) refl, of-flow-65, of-end 64 10 3 (omega arith) refl)
+listed : Listed 6 3 1 × Listed 6 3 1482 × Listed 6 25 8 × Listed 6 37 1477 × Listed 6 6 1481 × Listed 6 10 1484
+listed = (of-first 3 1 refl, of-later 64 3 1 (omega arith) refl, of-platform 25 8 refl, of-flow 63 37 19 (omega arith) refl, of-flow-65, of-end 64 10 3 (omega arith) refl)
 
 -- .. and behind a platform record of seven bytes.
-listed-moved : Listed 7 26 9 × Listed 7 1 1482 × Listed 7 37 1478 × Listed 7 6 1482 × Listed 7 10 1485
-listed-moved = (of-platform 26 9 refl, of-later 64 1 0 (omega arith) refl, of-flow 63 37 19 (omega arith) refl, of-flow-65, of-end 64 10 3 (omega arith) refl)
+listed-moved : Listed 7 26 9 × Listed 7 3 1483 × Listed 7 37 1478 × Listed 7 6 1482 × Listed 7 10 1485
+listed-moved = (of-platform 26 9 refl, of-later 64 3 1 (omega arith) refl, of-flow 63 37 19 (omega arith) refl, of-flow-65, of-end 64 10 3 (omega arith) refl)

@@ -129,7 +129,7 @@ fits-not = (λ w. omega (arith, w .0), λ w. omega (arith, w .1 .1 .0), λ w. om
 fits-each : FitsEach (first 200 ∷ [])
 unfolding first
 fits-each zero h = (omega arith, (omega arith, (omega arith, (omega arith, (omega arith, (omega arith, (omega arith, (omega arith, tt))))))))
-fits-each (suc k) h = absurd (omega (arith, h))
+fits-each (suc k) h = (omega arith, (omega arith, (omega arith, (omega arith, (omega arith, (omega arith, (omega arith, (omega arith, tt))))))))
 
 fits-each-not : FitsEach (second 65536 5 ∷ []) → ⊥
 unfolding second
