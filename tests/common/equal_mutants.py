@@ -2,6 +2,7 @@
 
 ORDER_OF_LINES = "the list is only asked whether it has a line"
 APART = "no number passes both tests, so their order does not matter"
+NOT_ABOVE = "a number not above 0 is 0"
 NEVER_READ = "stands behind the last line of the table, which nothing reads"
 TURNS = "a plan's bytes never use up the turns (`Fuel.turns-enough`)"
 ORDERS = "equal orders do not occur: a k in S_j^D and not in S_i^D shares no link with i"
@@ -16,7 +17,7 @@ REASONS = {
     "plan_table Refusals.flowRefusals": {"`(7, 3)` ↔ `(8, 5)`": ORDER_OF_LINES},
     "plan_table Table.tagOf": {"`Known PlatformRecord when eqb byte 0x01` ↔ `Known FlowRecord when eqb byte 0x02`": APART},
     "plan_table Table.noField": {"`, 0,` → `, 1,`": NEVER_READ, "`(One,` → `(Two,`": NEVER_READ},
-    "plan_checks Checks.headerAt": {"`(eqb at` → `(leb at`": "a place not above 0 is 0"},
+    "plan_checks Checks.headerAt": {"`(eqb at` → `(leb at`": NOT_ABOVE},
     "plan Reading.records": {"`refused 1 at` → `refused 2 at`": TURNS, "`1 at` → `1 zero`": TURNS, "`1` ↔ `at`": TURNS},
     "plan Reading.readPlan": {"`(suc (` → `( (`": "a turn takes 3 bytes, so that one turn less is enough; of no bytes both say 1 at 0"},
     "writer Fits.FitsEach": {"`k < length` → `k ≤ length`": "behind the list stands a blank flow, whose zeros fit"},
@@ -33,7 +34,7 @@ REASONS = {
     "model Latency.methodUsed": {"`SB when eqb (p .method) 1` ↔ `XLWX when eqb (p .method) 2`": APART},
     "model Delays.buffered": {"`i` ↔ `j`": SYMMETRIC},
     "model Links.pairOf": {"`(routeOf p i)` ↔ `(routeOf p j)`": SYMMETRIC},
-    "model PaperEquations.⌈_÷_⌉": {"`(eqb (` → `(leb (`": "a rest not above 0 is 0"},
+    "model PaperEquations.⌈_÷_⌉": {"`(eqb (` → `(leb (`": NOT_ABOVE},
     "model PaperEquations.bi₇": {"`i` ↔ `j`": SYMMETRIC},
     "model PaperSets.cd": {"`(route p i)` ↔ `(route p j)`": "what two routes share is the same either way round, in the same order (`mesh` `Theorems.one-run`)"},
     "model PaperSets.order": {"`= 0` → `= 1`": "it is asked of a link on the route alone"},
@@ -47,5 +48,9 @@ REASONS = {
     "model Verdicts.highest": {"`g` ↔ `f`": PRIORITIES},
     "model Verdicts.verdictBelow": {"`Late 0` → `Late 1`": "no flow has a priority number below 0"},
     "model Verdicts.verdict": {"`(suc (` → `( (`": "a priority number is 1 or more, and so is that of each flow on the way down: one turn less is enough"},
-    "reply Records.verdictBy": {"`Bounded bound rounds when eqb number 0` ↔ `Late rounds when eqb number 1`": APART},
+    "reply Records.verdictBy": {"`when eqb number` → `when leb number`": NOT_ABOVE, "`Bounded bound rounds when eqb number 0` ↔ `Late rounds when eqb number 1`": APART},
+    "lines Replied.toldAt": {
+        "`when eqb (` → `when leb (`": NOT_ABOVE,
+        "`(item boundedWord (boundAt is k) ++ item roundsWord (roundsAt is k)) when eqb (verdictAt is k) 0` ↔ `(lateWord ++ item roundsWord (roundsAt is k)) when eqb (verdictAt is k) 1`": APART,
+    },
 }
