@@ -1,13 +1,13 @@
 -- A plan written from its numbers, without priority flits and with 6 of them, no two of a record equal and the bytes of each different: every number has its place, most significant byte first.
 use mathlib.Core.Path.{_≡_, refl}
-use mathlib.Core.List.{List, [], _∷_}
+use mathlib.Core.List.{List, [], _∷_, _++_, map}
 use Prim.Native.Nat.{ℕ}
 use Rattle.framing.specs.First.{_when_else_}
 use Rattle.plan_table.specs.Table.{sixOrSeven}
 use Rattle.plan_values.specs.Values.{platformLength}
 use Rattle.plan_values.specs.declared.Flow.{Flow}
 use Rattle.framing.specs.Each.{each}
-use Rattle.writer_bytes.specs.PlanBytes.{platformBytes, flowBytes, planBytes}
+use Rattle.writer_bytes.specs.PlanBytes.{platformBytes, flowBytes, planBytes, planLength}
 
 abbrev flows : List Flow
 flows =
@@ -30,3 +30,10 @@ written :
     ≡ 0x01 ∷ 0x00 ∷ 0x07 ∷ 5 ∷ 3 ∷ 2 ∷ 4 ∷ 7 ∷ 1 ∷ 6 ∷ behind)
 unfolding platformBytes platformLength sixOrSeven _when_else_ flowBytes each
 written = (refl, refl)
+
+-- "12 + 23 n for n flows, or 13 + 23 n with a seventh byte"
+lengths :
+    map (planLength (record { columns = 5; rows = 3; link = 2; routing = 4; buffer = 7; method = 1; «priority_flits» = 0 })) (0 ∷ 1 ∷ 64 ∷ []) ++ map (planLength (record { columns = 5; rows = 3; link = 2; routing = 4; buffer = 7; method = 1; «priority_flits» = 6 })) (0 ∷ 1 ∷ 64 ∷ [])
+    ≡ 12 ∷ 35 ∷ 1484 ∷ 13 ∷ 36 ∷ 1485 ∷ []
+unfolding platformLength _when_else_
+lengths = refl
