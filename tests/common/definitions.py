@@ -25,7 +25,7 @@ WORDS = {
         "IsPlatform": ["IsFlow"], "IsFlow": ["IsEnd"], "IsEnd": ["IsPlatform"],
     },
     "field": {
-        ".columns": [".rows"], ".rows": [".columns"], ".link": [".routing"], ".routing": [".buffer"], ".buffer": [".link"], ".method": [".buffer"],
+        ".columns": [".rows"], ".rows": [".columns"], ".link": [".routing"], ".routing": [".buffer"], ".buffer": [".link"], ".method": [".buffer"], ".«priority_flits»": [".method"],
         ".id": [".priority"], ".priority": [".id"], ".source": [".destination"], ".destination": [".source"], ".flits": [".period"],
         ".period": [".deadline", ".weight", ".nodes"], ".deadline": [".period", ".jitter"], ".jitter": [".deadline"],
         ".count": [".first"], ".first": [".count"], ".shift": [".weight"], ".weight": [".shift"], ".nodes": [".period"],
