@@ -9,7 +9,7 @@ use Rattle.plan.specs.Legal.{LegalPlatform, LegalFlow}
 use Rattle.model.specs.Links.{routeOf}
 use Rattle.model.specs.Latency.{flitsSent, latency}
 use Rattle.model.proofs.Links.{route-within}
-use Rattle.model.proofs.Fits.{link-part, routing-part}
+use Rattle.model.proofs.Fits.{linkMost, routingMost, link-part, routing-part}
 
 module _ {p : Platform} {f : Flow} (a : LegalPlatform p) (w : LegalFlow p f) {links : ℕ} (e : links ≡ length (routeOf p f)) where
   pub links-some : (3 ≤ links) × (links ≤ 16)
@@ -20,10 +20,10 @@ module _ {p : Platform} {f : Flow} (a : LegalPlatform p) (w : LegalFlow p f) {li
     sent = omega (arith, links-some)
 
     -- what the model says of the two parts, of the numbers as they are at hand
-    pub link-small : {link : ℕ} → link ≡ p .link → link * (flits + (links - 1)) ≤ 16 * 65558
+    pub link-small : {link : ℕ} → link ≡ p .link → link * (flits + (links - 1)) ≤ linkMost
     link-small l = rw (l, sent) (link-part a w)
 
-    pub routing-small : {routing : ℕ} → routing ≡ p .routing → routing * (links - 1) ≤ 16 * 15
+    pub routing-small : {routing : ℕ} → routing ≡ p .routing → routing * (links - 1) ≤ routingMost
     routing-small r = rw (r, e) (routing-part a w)
 
     pub latency-is : {link routing : ℕ} → link ≡ p .link → routing ≡ p .routing → link * (flits + (links - 1)) + routing * (links - 1) ≡ latency p f

@@ -30,18 +30,24 @@ use Rattle.model.proofs.Links.{ends, route-within}
 use Rattle.framing.proofs.Tests.{and-left}
 
 -- ---- latencies and hits are small
+-- The two parts of a latency are at most these: "link cycles x (flits + length - 1)", with up to 8 priority flits, and "routing cycles x (length - 1)".
+abbrev pub linkMost : ℕ
+linkMost = 16 * 65558
+
+abbrev pub routingMost : ℕ
+routingMost = 16 * 15
+
 module _ {p : Platform} {f : Flow} (lp : LegalPlatform p) (l : LegalFlow p f) where
   pub flits-few : flitsSent p f ≤ 65543
   flits-few = omega (arith, l .flits .1, lp .«priority_flits» .1)
 
-  -- A latency is at most 16 x 65,558 + 16 x 15: its two parts.
-  pub link-part : p .link * (flitsSent p f + length (routeOf p f) - 1) ≤ 16 * 65558
+  pub link-part : p .link * (flitsSent p f + length (routeOf p f) - 1) ≤ linkMost
   link-part = mul-le-mul {n₂ = 16} {m₂ = 65558} (lp .link .1) (omega (arith, flits-few, route-most (ends lp l)))
 
-  pub routing-part : p .routing * (length (routeOf p f) - 1) ≤ 16 * 15
+  pub routing-part : p .routing * (length (routeOf p f) - 1) ≤ routingMost
   routing-part = mul-le-mul {n₂ = 16} {m₂ = 15} (lp .routing .1) (omega (arith, route-most (ends lp l)))
 
-  pub latency-small : latency p f ≤ 1_049_168
+  pub latency-small : latency p f ≤ linkMost + routingMost
   unfolding latency
   latency-small = omega (arith, link-part, routing-part)
 

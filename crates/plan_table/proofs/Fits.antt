@@ -1,4 +1,4 @@
--- A record's field is a line of the table, and which lines a record has.
+-- A record's field is a line of the table.
 use Prim.Native.Nat.{ℕ, zero, suc, _+_, _≤_, _<_}
 use native.Mathlib.Omega.{arith}
 use native.Mathlib.Nat.{zero-add}

@@ -62,17 +62,19 @@ flowFields =
     (Four, 1, UpToPeriod 38, 36) ∷  -- deadline (4): 1..period; "36 is deadline zero, 38 is deadline above period"
     (Four, 0, UpTo 1_000_000_000, 37) ∷ []  -- jitter (4): 0..1,000,000,000
 
+-- The lines of a kind of record ..
 abbrev pub linesOf : Kind → List Field
 linesOf PlatformRecord = platformFields
 linesOf FlowRecord = flowFields
 linesOf EndRecord = []
 
--- How many of them a record has. A platform's have a byte each, so that they are as many as its length.
+-- .. how many of them a record has that tells this length. A platform's have a byte each, so that they are as many as its length.
 abbrev pub fieldCount : Kind → ℕ → ℕ
 fieldCount PlatformRecord told = sixOrSeven told
 fieldCount FlowRecord told = 8
 fieldCount EndRecord told = 0
 
+-- .. and which.
 abbrev pub fieldsOf : Kind → ℕ → List Field
 fieldsOf PlatformRecord told = take (sixOrSeven told) platformFields
 fieldsOf FlowRecord told = flowFields
