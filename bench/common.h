@@ -11,7 +11,7 @@ enum { MOST_FLOWS = 64, MOST_CYCLES = 1000000000, SIDE = 8 };
 enum { PLATFORM_TAG = 0x01, FLOW_TAG = 0x02, END_TAG = 0x7F, ANSWER_TAG = 0x81 };
 enum { HEADER = 3, PLATFORM_BODY = 6, LONGER_BODY = 7, FLOW_BODY = 20, ANSWER_BODY = 13, NO_FLOW = 0xFFFF };
 enum { FLOW_SIZE = HEADER + FLOW_BODY };
-enum { SB = 1, XLWX = 2, IBN = 3, HOUSE_DEFAULT = XLWX };
+enum { SB = 1, XLWX = 2, IBN = 3 };
 
 /* Ids and priorities as read. What pads them is no legal value, so that searches may run on to a multiple of 8. */
 struct reading {

@@ -6,6 +6,8 @@
 
 #include "lingfallow.h"
 
+enum { HOUSE_DEFAULT = LINGFALLOW_METHOD_IBN }; /* what method 0 means */
+
 /* The fastest form (plain.c). */
 struct lingfallow_returned plain_analyse(const uint8_t *plan, size_t plan_length, uint8_t *reply, size_t reply_length);
 

@@ -4,7 +4,7 @@
 
 #include "plain.h"
 
-enum { TEXT_ROOM = 128 + 64 * 48, HOUSE_DEFAULT = 2 };
+enum { TEXT_ROOM = 128 + 64 * 48 };
 
 static uint8_t plan[LINGFALLOW_DECIDING_BYTES], reply[LINGFALLOW_LONGEST_REPLY];
 static char text[TEXT_ROOM];

@@ -101,7 +101,7 @@ def up(a, b):
 class Analysis:
     def __init__(self, platform, flows):
         self.columns, self.rows, self.link, self.routing, self.buffer, method, self.priority_flits = platform
-        self.method = 2 if method == 0 else method
+        self.method = 3 if method == 0 else method
         self.flows = {f[0]: f for f in flows}
         self.routes = {f[0]: route(self.columns, f[2], f[3]) for f in flows}
         self.answers = {}
@@ -295,12 +295,12 @@ def answers_of(data):
 
 
 def figures():
-    """Document 01's "Figures to meet": the change to P, the flow, its verdict, named flow, bound and rounds."""
+    """Document 01's "Figures to meet", with document 02's L6 for method 0: the change to P, the flow, its verdict, named flow, bound and rounds."""
     none = 65535
     slow = [(32 + 11, u(4, 400)), (32 + 15, u(4, 400))]
     yield [(8, b"\1")], 5, (0, none, 336, 2)
     yield [(8, b"\2")], 5, (0, none, 460, 2)
-    yield [(8, b"\0")], 5, (0, none, 460, 2)
+    yield [(8, b"\0")], 5, (0, none, 396, 2)
     yield [], 2, (0, none, 62, 1)
     yield [], 3, (0, none, 328, 2)
     yield [], 5, (0, none, 396, 2)
@@ -452,7 +452,7 @@ def priority_flit_figures():
     yield 3, 8, ((70, 1), (352, 2), (412, 2))
     yield 1, 2, ((64, 1), (334, 2), (340, 2))
     yield 2, 2, ((64, 1), (334, 2), (468, 2))
-    yield 0, 2, ((64, 1), (334, 2), (468, 2))
+    yield 0, 2, ((64, 1), (334, 2), (400, 2))
 
 
 def outcome_of(data):

@@ -3,7 +3,7 @@
 -- The words of these statements: `Laid`, `Legal`, `RefusedBecause` and `Listed` of plan's specs, `Right` of model's specs/Rules, and specs/Records of
 -- reply, the places in a record, and of this crate.
 -- By document 02 (L3) the deadline of demands 2 and 3 is the deadline less the flow's own jitter, `limit` of model's specs/Latency; without jitter it is
--- the deadline (`no-jitter` of model's proofs/Ticks).
+-- the deadline (`no-jitter` of model's proofs/Ticks). By document 02 (L6) the method 0 of demand 2 is IBN, `houseDefault` there.
 use Prim.Native.Nat.{ℕ, _+_, _-_, _*_, _≤_, _<_}
 use mathlib.Core.Path.{_≡_, refl, sym, ap, _∙_}
 use mathlib.Core.Logic.{_↔_, _≢_, Iff·trans}

@@ -60,6 +60,7 @@ row bytes room result holds = record { bytes = bytes; room = room; result = resu
 abbrev table : List Row
 table =
     row P 51 (acceptedWith 51) reply-of-P  -- "reply of 50 / 51 bytes | | refused 11 / accepted"
+    ∷ row (set P 8 0) 51 (acceptedWith 51) reply-of-P  -- document 02, L6: "Method 0 on P now gives 396 for flow 5"
     ∷ row P 50 (refusedWith 11 0) (buffer 50)
     ∷ row P 54 (acceptedWith 51) (reply-of-P ++ buffer 3)  -- "A longer buffer keeps its further bytes."
     ∷ row no-flows 3 (acceptedWith 3) (0x7F ∷ 0x00 ∷ 0x00 ∷ [])  -- "no flows | | reply 7F 0000"

@@ -4,4 +4,5 @@ mod Bytes
 mod Deciding
 pub mod Demands
 pub mod PriorityFlits
+pub mod HouseDefault
 mod Examples

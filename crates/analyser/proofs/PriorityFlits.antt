@@ -6,7 +6,8 @@ use lib.ListN.{length, length-map}
 use Rattle.plan_values.specs.declared.Platform.{Platform}
 use Rattle.plan_values.specs.declared.Flow.{Flow}
 use Rattle.plan.specs.Reading.{accepted, readPlan}
-use Rattle.model.proofs.PriorityFlits.{withMore, raised, answers-same}
+use Rattle.model.proofs.SameAnswers.{withMore, raised}
+use Rattle.model.proofs.PriorityFlits.{answers-same}
 use Rattle.engine.proofs.Accepted.{plan-flows}
 use Rattle.analyser.specs.Analysed.{returned, left}
 

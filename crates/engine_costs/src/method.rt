@@ -7,7 +7,7 @@ use plan_values::Platform;
 fn house_default() -> Method
     ensures { λ r. ⌜ r ≡ houseDefault ⌝ }
 {
-    Method::XLWX
+    Method::IBN
 }
 
 // What a method's number means.

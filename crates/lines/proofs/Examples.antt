@@ -57,12 +57,16 @@ cutText = 114 ∷ 101 ∷ 102 ∷ 117 ∷ 115 ∷ 101 ∷ 100 ∷ 32 ∷ 49 ∷ 
 abbrev bufferText : List ℕ
 bufferText = 114 ∷ 101 ∷ 102 ∷ 117 ∷ 115 ∷ 101 ∷ 100 ∷ 32 ∷ 50 ∷ 52 ∷ 32 ∷ 97 ∷ 116 ∷ 32 ∷ 55 ∷ 10 ∷ []
 
--- The bytes offered and the text printed; methods are printed as used, so that 0 is printed as 2.
+-- P with this method and no flows.
+abbrev no-flows : ℕ → List ℕ
+no-flows method = set (take 9 P) 8 method ++ (0x7F ∷ 0 ∷ 0 ∷ [])
+
+-- The bytes offered and the text printed; methods are printed as used, so that 0 is printed as 3.
 abbrev offered : List (List ℕ)
-offered = P ∷ set (set P 49 0x01) 50 0x47 ∷ (set (take 9 P) 8 0 ++ (0x7F ∷ 0 ∷ 0 ∷ [])) ∷ take 78 P ∷ set P 7 65 ∷ []
+offered = P ∷ set (set P 49 0x01) 50 0x47 ∷ no-flows 0 ∷ no-flows 2 ∷ take 78 P ∷ set P 7 65 ∷ []
 
 abbrev printed : List (List ℕ)
-printed = (meshOf 51 ++ flowsOfP) ∷ (meshOf 51 ++ lateText) ∷ meshOf 50 ∷ cutText ∷ bufferText ∷ []
+printed = (meshOf 51 ++ flowsOfP) ∷ (meshOf 51 ++ lateText) ∷ meshOf 51 ∷ meshOf 50 ∷ cutText ∷ bufferText ∷ []
 
 texts : map textOf offered ≡ printed
 unfolding tagOf sixOrSeven priorityFlitsAt headerAt taggedAt frameAt fieldsFrom clashAt tailAt restAt _then_ bodyAt recordAt accepted refused after records readPlan _when_else_ hops along xy on domain first-from up sumOver comesToFrom comesTo methodUsed latency directFor indirectFor comesBefore those allowance weight term terms highest judged judge verdictBelow verdict answers each digitsBelow decimal item meshStart meshLine told flowLine refusalLine textBy

@@ -2,6 +2,7 @@
 use Prim.Native.Nat.{ℕ}
 use mathlib.Core.Path.{_≡_, refl}
 use mathlib.Core.List.{List, [], _∷_, map}
+use lib.ListN.{drop}
 use Rattle.framing.specs.First.{_when_else_}
 use Rattle.plan_values.specs.declared.Platform.{Platform}
 use Rattle.plan_values.specs.declared.Flow.{Flow}
@@ -11,16 +12,15 @@ use Rattle.mesh.specs.Shared.{on, domain, first-from}
 use Rattle.recurrence.specs.Rounding.{up}
 use Rattle.recurrence.specs.Sums.{sumOver}
 use Rattle.recurrence.specs.ComesTo.{comesToFrom, comesTo}
-use Rattle.model.specs.declared.Method.{Method}
 use Rattle.model.specs.declared.Method.the-variants.{SB, XLWX, IBN}
 use Rattle.model.specs.declared.Verdict.{Verdict}
 use Rattle.model.specs.declared.Verdict.the-variants.{Bounded, Late, Waits}
-use Rattle.model.proofs.PriorityFlits.{withMore}
+use Rattle.model.proofs.SameAnswers.{withMore}
 use Rattle.model.specs.Links.{pairOf}
-use Rattle.model.specs.Latency.{methodUsed, methodNumber, latency}
+use Rattle.model.specs.Latency.{methodUsed, withMethod, latency}
 use Rattle.model.specs.Interference.{directFor, indirectFor, comesBefore, those}
 use Rattle.model.specs.Delays.{allowance, weight, term, terms}
-use Rattle.model.specs.Verdicts.{verdictNumber, namedFlow, boundIn, roundsIn, packetsIn, highest, judged, judge, verdictBelow, verdict, answers}
+use Rattle.model.specs.Verdicts.{verdictNumber, namedFlow, boundIn, roundsIn, packetsIn, highest, judged, judge, verdictBelow, verdict, answers, answersBy}
 
 abbrev mesh : (columns rows link routing buffer method : ℕ) → Platform
 mesh columns rows link routing buffer method = record { columns = columns; rows = rows; link = link; routing = routing; buffer = buffer; method = method; «priority_flits» = 0 }
@@ -45,17 +45,14 @@ pub record Example : Type 0 where
 abbrev example : Platform → List Flow → List Verdict → Example
 example p fs vs = record { platform = p; flows = fs; verdicts = vs }
 
--- "0 asks for the house default, which is XLWX"
-methods : map (λ m. methodUsed (line 1 m)) (0 ∷ 1 ∷ 2 ∷ 3 ∷ []) ≡ XLWX ∷ SB ∷ XLWX ∷ IBN ∷ []
+-- "From now on method 0 means 3"
+methods : map (λ m. methodUsed (line 1 m)) (0 ∷ 1 ∷ 2 ∷ 3 ∷ []) ≡ IBN ∷ SB ∷ XLWX ∷ IBN ∷ []
 unfolding methodUsed _when_else_
 methods = refl
 
--- "Method 1 is SB, 2 is XLWX, 3 is IBN": a method's number asks for it.
-numbers : (m : Method) → methodUsed (line 1 (methodNumber m)) ≡ m
-unfolding methodUsed _when_else_
-numbers SB = refl
-numbers XLWX = refl
-numbers IBN = refl
+-- Another method's number, and all else the same.
+other-method : withMethod 9 (withMore 7 (mesh 1 2 3 4 5 6)) ≡ withMore 7 (mesh 1 2 3 4 5 9)
+other-method = refl
 
 -- "This agrees with Table V of 002 with link cycles 1 and routing cycles 0": 62 (60 flits, 3 links), 204 (198, 7), 132 (128, 5).
 table-V : (latency (line 10 3) (flow 2 1 4 5 60 200 200 0) ≡ 62) × (latency (line 10 3) (flow 3 2 0 5 198 4000 4000 0) ≡ 204) × (latency (line 10 3) (flow 5 3 1 4 128 6000 6000 0) ≡ 132)
@@ -187,6 +184,11 @@ table =
 examples : map (λ e. map (λ a. a .verdict) (answers (e .platform) (e .flows))) table ≡ map (λ e. e .verdicts) table
 unfolding hops along xy on domain first-from up sumOver comesToFrom comesTo methodUsed _when_else_ latency directFor indirectFor comesBefore those allowance weight term terms highest judged judge verdictBelow verdict answers
 examples = refl
+
+-- By each method, whatever number the platform has: flow 4 of the plan with flows on both sides.
+by-methods : map (λ m. map (λ a. a .verdict) (drop 3 (answersBy m (line 10 0) both-sides))) (SB ∷ XLWX ∷ IBN ∷ []) ≡ (Bounded 130 3 ∷ []) ∷ (Bounded 170 3 ∷ []) ∷ (Bounded 150 3 ∷ []) ∷ []
+unfolding hops along xy on domain first-from up sumOver comesToFrom comesTo methodUsed _when_else_ latency directFor indirectFor comesBefore those allowance weight term terms highest judged judge verdictBelow verdict answers
+by-methods = refl
 
 -- "a definition sets out this paper's number and values for each of its cases": the number, the named flow, the bound and the rounds.
 values :

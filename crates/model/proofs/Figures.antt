@@ -67,8 +67,8 @@ goes-0-to-1 = put P 16 (0 ∷ 1 ∷ [])
 abbrev pub table : List Row
 table =
     row (method 1 P) 5 (Bounded 336 2)  -- method 1
-    ∷ row (method 2 P) 5 (Bounded 460 2)  -- method 2 or 0
-    ∷ row (method 0 P) 5 (Bounded 460 2)
+    ∷ row (method 2 P) 5 (Bounded 460 2)  -- method 2
+    ∷ row (method 0 P) 5 (Bounded 396 2)  -- method 0: document 02, L6, "Method 0 on P now gives 396 for flow 5"
     ∷ row P 5 (Bounded 396 2)  -- none
     ∷ row (buffer 2 P) 5 (Bounded 348 2)  -- buffer 2
     ∷ row deadline-328 3 (Bounded 328 2)  -- flow 3 deadline 328
@@ -105,7 +105,7 @@ seventh-table =
     ∷ row (withSeventh 2) 5 (Bounded 400 2)  -- 134 + 206 + 2 x 30
     ∷ row (method 1 (withSeventh 2)) 5 (Bounded 340 2)  -- 134 + 206
     ∷ row (method 2 (withSeventh 2)) 5 (Bounded 468 2)  -- 134 + 206 + 2 x 64
-    ∷ row (method 0 (withSeventh 2)) 5 (Bounded 468 2)
+    ∷ row (method 0 (withSeventh 2)) 5 (Bounded 400 2)
     ∷ row (withSeventh 1) 5 (Bounded 398 2)
     ∷ row (withSeventh 8) 5 (Bounded 412 2)
     ∷ []

@@ -11,7 +11,10 @@ pub mod Ticks
 pub mod Direct
 pub mod PaperParts
 pub mod Paper
+pub mod SameAnswers
 pub mod PriorityFlits
+pub mod Methods
+pub mod MethodByte
 pub mod Figures
 mod Examples
 mod PaperTables

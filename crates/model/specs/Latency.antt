@@ -1,4 +1,4 @@
--- Document 01, "The plan's bytes" and "Routes and shared links", and document 02, L3 and L7: the method really used, the unloaded latency, and what a bound is held against.
+-- Document 01, "The plan's bytes" and "Routes and shared links", and document 02, L3, L6 and L7: the method really used, the unloaded latency, and what a bound is held against.
 use Prim.Native.Nat.{ℕ, _+_, _-_, _*_}
 use lib.Dec.{eqb}
 use lib.ListN.{length}
@@ -9,9 +9,9 @@ use Rattle.model.specs.Links.{routeOf}
 use Rattle.model.specs.declared.Method.{Method}
 use Rattle.model.specs.declared.Method.the-variants.{SB, XLWX, IBN}
 
--- "0 asks for the house default, which is XLWX"
+-- Document 02, L6: "The house default becomes IBN .. From now on method 0 means 3"
 abbrev pub houseDefault : Method
-houseDefault = XLWX
+houseDefault = IBN
 
 -- "Method 1 is SB, 2 is XLWX, 3 is IBN .. ; 0 asks for the house default": the method really used.
 unfoldable pub methodUsed : Platform → Method
@@ -26,6 +26,11 @@ abbrev pub methodNumber : Method → ℕ
 methodNumber SB = 1
 methodNumber XLWX = 2
 methodNumber IBN = 3
+
+-- The same platform with another method's number.
+abbrev pub withMethod : ℕ → Platform → Platform
+withMethod number p =
+    record { columns = p .columns; rows = p .rows; link = p .link; routing = p .routing; buffer = p .buffer; method = number; «priority_flits» = p .«priority_flits» }
 
 -- Document 02, L7: "priority flits .., added to each flow's flits wherever C is worked out"
 abbrev pub flitsSent : Platform → Flow → ℕ

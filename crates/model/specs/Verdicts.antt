@@ -10,9 +10,10 @@ use Rattle.recurrence.specs.declared.Settled.{Settled}
 use Rattle.recurrence.specs.declared.Settled.the-variants.{Bounded as BoundedAt, Late as LateAfter}
 use Rattle.recurrence.specs.Recurrence.{Term, rightSide, total}
 use Rattle.recurrence.specs.ComesTo.{comesTo}
-use Rattle.model.specs.Latency.{methodUsed, latency, limit}
+use Rattle.model.specs.Latency.{methodUsed, methodNumber, withMethod, latency, limit}
 use Rattle.model.specs.Interference.{directFor, those}
 use Rattle.model.specs.Delays.{terms}
+use Rattle.model.specs.declared.Method.{Method}
 use Rattle.model.specs.declared.Verdict.{Verdict}
 use Rattle.model.specs.declared.Verdict.the-variants.{Bounded, Late, Waits}
 use Rattle.model.specs.declared.Answer.{Answer}
@@ -98,3 +99,7 @@ answerTo p fs i = record { id = i .id; verdict = verdict p fs i }
 
 unfoldable pub answers : Platform → List Flow → List Answer
 answers p fs = map (answerTo p fs) fs
+
+-- The answers by a method, whatever number the platform has.
+abbrev pub answersBy : Method → Platform → List Flow → List Answer
+answersBy m p fs = answers (withMethod (methodNumber m) p) fs
