@@ -4,8 +4,9 @@ use mathlib.Core.Path.{_≡_, refl}
 use mathlib.Core.Bool.{Bool, true, false}
 use mathlib.Core.List.{List, [], _∷_, _++_, map}
 use lib.ListN.{length, take, drop, replicate}
+use Rattle.framing_numbers.specs.declared.Width.the-variants.{One, Two, Four}
 use Rattle.framing.specs.First.{_when_else_}
-use Rattle.plan_table.specs.Table.{tagOf, sixOrSeven, bodyLength, platformFields, flowFields, linesOf, fieldCount, fieldsOf, lowestOf, highestOf, refusalOf, lines, firstLine}
+use Rattle.plan_table.specs.Table.{tagOf, sixOrSeven, bodyLength, platformFields, flowFields, linesOf, fieldCount, fieldsOf, width, lowestOf, highestOf, refusalOf, lines, firstLine}
 use Rattle.plan_table.specs.Refusals.{recordRefusals, platformRefusals, flowRefusals, endRefusals, refusalsOf, isNumber, has}
 use Rattle.plan_table.specs.declared.Tag.the-variants.{Known, Unknown}
 use Rattle.plan_table.specs.declared.Kind.{Kind}
@@ -25,6 +26,10 @@ other-lengths = refl
 bytes : map (λ (told : ℕ). sizeOf (fieldsOf PlatformRecord told)) (6 ∷ 7 ∷ []) ≡ 6 ∷ 7 ∷ []
 unfolding sixOrSeven _when_else_
 bytes = refl
+
+widths : (map width (fieldsOf PlatformRecord 7) ≡ replicate 7 One) × (map width (fieldsOf FlowRecord 20) ≡ Two ∷ Two ∷ One ∷ One ∷ Two ∷ Four ∷ Four ∷ Four ∷ [])
+unfolding sixOrSeven _when_else_
+widths = (refl, refl)
 
 -- Column "allowed values", with the seventh byte.
 platform-values :
