@@ -49,6 +49,8 @@ REASONS = {
     "model Verdicts.verdictBelow": {"`Late 0` → `Late 1`": "no flow has a priority number below 0"},
     "model Verdicts.verdict": {"`(suc (` → `( (`": "a priority number is 1 or more, and so is that of each flow on the way down: one turn less is enough"},
     "reply Records.verdictBy": {"`when eqb number` → `when leb number`": NOT_ABOVE, "`Bounded bound rounds when eqb number 0` ↔ `Late rounds when eqb number 1`": APART},
+    "converter Converted.rewritten": {"`when eqb (` → `when leb (`": NOT_ABOVE},
+    "converter Converted.approvedMethod": {"`when eqb (` → `when leb (`": NOT_ABOVE},
     "lines Replied.toldAt": {
         "`when eqb (` → `when leb (`": NOT_ABOVE,
         "`(item boundedWord (boundAt is k) ++ item roundsWord (roundsAt is k)) when eqb (verdictAt is k) 0` ↔ `(lateWord ++ item roundsWord (roundsAt is k)) when eqb (verdictAt is k) 1`": APART,

@@ -32,3 +32,8 @@ returnedBy Accepted needed room = roomFor needed room
 unfoldable pub leftBy : Outcome → ℕ → List ℕ → List ℕ → List ℕ
 leftBy (Refused number place) needed bytes held = held
 leftBy Accepted needed bytes held = putInto needed bytes held
+
+-- Document 02, L6: a call without a reply "refuses as the reader does", and otherwise returns number 0 and its value.
+unfoldable pub valueBy : Outcome → ℕ → Returned
+valueBy (Refused number place) value = refusedWith number place
+valueBy Accepted value = acceptedWith value

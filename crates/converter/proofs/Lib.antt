@@ -1,0 +1,4 @@
+mod Converting
+pub mod Conversions
+pub mod Approved
+mod Examples
