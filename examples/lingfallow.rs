@@ -1,6 +1,6 @@
-//! The two calls of include/lingfallow.h for Rust, in any edition: a module to copy. Link with `-l static=analyser` for
-//! `analyse`, with `-l static=writer` for `write`.
-#![allow(dead_code)] // a program may use one of the two
+//! The three calls of include/lingfallow.h for Rust, in any edition: a module to copy. Link with `-l static=analyser`
+//! for `analyse`, with `-l static=writer` for `write`, with `-l static=converter` for `convert`.
+#![allow(dead_code)] // a program may use one of the three
 
 // The sizes that include/lingfallow.h explains.
 pub const LONGEST_PLAN: usize = 1485;
@@ -57,6 +57,7 @@ macro_rules! extern_c {
 extern_c! { _;
     fn lingfallow_analyse(plan: *const u8, plan_length: usize, reply: *mut u8, reply_length: usize) -> Returned;
     fn lingfallow_write(plan: Plan, bytes: *mut u8, length: usize) -> Returned;
+    fn lingfallow_convert(plan: *mut u8, plan_length: usize) -> Returned;
 }
 
 /// A number of docs/FORMAT.md's table, and its place.
@@ -87,6 +88,12 @@ pub fn write(platform: Platform, flows: &[Flow], bytes: &mut [u8]) -> Result<usi
     plan.flows[..kept].copy_from_slice(&flows[..kept]);
     // SAFETY: a slice's pointer is good for its length.
     length_or_refusal(unsafe { lingfallow_write(plan, bytes.as_mut_ptr(), bytes.len()) })
+}
+
+/// Of an accepted plan, a method of 0 is 2 then. Every other byte stays, and a refusal leaves them all.
+pub fn convert(plan: &mut [u8]) -> Result<(), Refusal> {
+    // SAFETY: a slice's pointer is good for its length.
+    length_or_refusal(unsafe { lingfallow_convert(plan.as_mut_ptr(), plan.len()) }).map(|_| ())
 }
 
 #[derive(Clone, Copy, Debug, PartialEq, Eq)]

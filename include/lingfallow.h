@@ -1,9 +1,11 @@
-/* Lingfallow: worst-case delays of the message flows of a plan, and a writer of plans, for C99 and C++ on x86-64 Linux.
+/* Lingfallow: worst-case delays of the message flows of a plan, a writer of plans and a conversion of stored ones, for
+ * C99 and C++ on x86-64 Linux.
  *
- * For lingfallow_analyse link with libanalyser.a, for lingfallow_write with libwriter.a; `rt staticlib analyser` and
- * `rt staticlib writer` write them to target/staticlib/. Neither needs the other, and a program may link both.
- * docs/FORMAT.md has the formats with examples, plans/ has plans in commented hex, and examples/analyse.c and
- * examples/write.c are programs to start from.
+ * For lingfallow_analyse link with libanalyser.a, for lingfallow_write with libwriter.a, for lingfallow_convert with
+ * libconverter.a; `rt staticlib analyser`, `rt staticlib writer` and `rt staticlib converter` write them to
+ * target/staticlib/. None needs another, and a program may link them all. docs/FORMAT.md has the formats with examples,
+ * plans/ has plans in commented hex, and examples/analyse.c, examples/write.c and examples/convert.c are programs to
+ * start from.
  */
 #ifndef LINGFALLOW_H
 #define LINGFALLOW_H
@@ -17,7 +19,7 @@ extern "C" {
 
 /* The version; CHANGELOG.md says what each one changed for a caller. */
 #define LINGFALLOW_VERSION_MAJOR 0
-#define LINGFALLOW_VERSION_MINOR 7
+#define LINGFALLOW_VERSION_MINOR 8
 #define LINGFALLOW_VERSION_PATCH 0
 
 /* Sizes in bytes, and the most flows of a plan. */
@@ -71,7 +73,9 @@ extern "C" {
 #define LINGFALLOW_LEAST_DEADLINE 1
 #define LINGFALLOW_MOST_JITTER 1000000000
 
-/* Methods. 0 asks for the house default, which is XLWX: the reply is that of method 2, and a plan keeps its 0. */
+/* Methods. 0 asks for the house default, which is IBN: the reply is that of method 3, and a plan keeps its 0. Before
+ * 0.8.0 it was XLWX, the reply that of method 2: lingfallow_convert keeps the figures of a plan that was stored then.
+ */
 #define LINGFALLOW_METHOD_DEFAULT 0
 #define LINGFALLOW_METHOD_SB 1
 #define LINGFALLOW_METHOD_XLWX 2
@@ -100,7 +104,7 @@ extern "C" {
 /* What a call returns. */
 struct lingfallow_returned {
     uint8_t number; /* 0: accepted; else refused, with a number of the table below */
-    size_t value;   /* accepted: the length of what was written; refused: the place */
+    size_t value;   /* accepted: the length of the reply or plan written, 0 of a conversion; refused: the place */
 };
 
 /* The numbers of refusals: when each is given, and whose place in the plan's bytes is told with it. 5 is free.
@@ -220,6 +224,30 @@ struct lingfallow_plan {
  * changes, no heap, memcpy and memset alone are called, and under 16 KiB of stack.
  */
 struct lingfallow_returned lingfallow_write(struct lingfallow_plan plan, uint8_t *bytes, size_t length);
+
+/* Converts the plan in the plan_length bytes at plan, where it stands, so that it keeps the figures that it was
+ * approved with before 0.8.0: method 0, which was XLWX then, becomes 2, which is XLWX still.
+ *
+ * Accepted: number is 0 and value is 0, whether a byte changed or not. If the byte at offset 8, the method,
+ * was 0, it is 2 now, in a platform record of length 6 as of 7; if it was 1, 2 or 3 it stays. Every other byte holds
+ * what it held before. So what is left is accepted too, and to convert it again changes nothing.
+ *
+ * Refused: number and value are those that lingfallow_analyse gives for these bytes, and never 11, which is a reply
+ * buffer's. Every byte holds what it held before.
+ *
+ * A plan does not tell when it was approved. One whose 0 asks for IBN would be made to ask for XLWX: convert the plans
+ * that were stored before 0.8.0, and no later ones.
+ *
+ * It asks nothing of the bytes and nothing of the length, works out no figure and always ends. Of the pointer it asks
+ * that it points to plan_length bytes that may be read and written, and that nothing else uses them during the call; of
+ * length 0 it may be null.
+ *
+ * What it returns, what the bytes hold and that it ends are proved of the Rattle code
+ * (crates/converter/specs/Converted.antt). Seen in the archive and tested, not proved (tests/examples.sh): a null
+ * pointer does as said; no data that changes, no heap, no function is called, neither memcpy nor memset, and under
+ * 1 KiB of stack.
+ */
+struct lingfallow_returned lingfallow_convert(uint8_t *plan, size_t plan_length);
 
 #ifdef __cplusplus
 }

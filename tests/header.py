@@ -3,7 +3,8 @@
 the reply's record.
 
 The header's macros, its refusals and its pictures of plan and reply; docs/FORMAT.md's tables; the sizes of examples/lingfallow.rs; the
-lengths of plans/bytes. The header's version is CHANGELOG.md's last. Then faults are planted in copies, and each must be found.
+lengths of plans/bytes; what the texts say of the methods, the house default and the conversion. The header's version is CHANGELOG.md's last, and its
+stacks are those that tests/memory.c allows. Then faults are planted in copies, and each must be found.
 """
 import collections
 import pathlib
@@ -13,8 +14,10 @@ import sys
 ROOT = pathlib.Path(__file__).resolve().parent.parent
 TABLE, LISTED = "crates/plan_table/src/lib.rt", "crates/plan_table/specs/Refusals.antt"
 CHECKS, PROGRAM, REPLY = "crates/plan_checks/src/lib.rt", "crates/bounds/src/main.rt", "crates/reply/specs/Reply.antt"
+METHOD, LATENCY, CONVERTER = "crates/engine_costs/src/method.rt", "crates/model/specs/Latency.antt", "crates/converter/src/lib.rt"
 HEADER, FORMAT, RUST, BYTES, CHANGES = "include/lingfallow.h", "docs/FORMAT.md", "examples/lingfallow.rs", "plans/bytes", "CHANGELOG.md"
-FILES = (TABLE, LISTED, CHECKS, PROGRAM, REPLY, HEADER, FORMAT, RUST, BYTES, CHANGES)
+PRINTED, MEMORY = "docs/BOUNDS.md", "tests/memory.c"
+FILES = (TABLE, LISTED, CHECKS, PROGRAM, REPLY, METHOD, LATENCY, CONVERTER, HEADER, FORMAT, RUST, BYTES, CHANGES, PRINTED, MEMORY)
 WIDTHS = {"One": 1, "Two": 2, "Four": 4}
 
 # `only_if`: the length that a record with this field has, where it may have another.
@@ -224,6 +227,58 @@ def faults_of_sizes(texts):
     return faults + ([f"{BYTES}: the records are {found}"] if found != expected else [])
 
 
+def one_line(text):
+    """Without line ends, and without the stars of a comment's lines."""
+    return re.sub(r"\s*\n(?: \*)?\s*", " ", text)
+
+
+def faults_of_absent(texts, sentences):
+    return [f"{path}: does not say {sentence!r}" for path, sentence in sentences if sentence not in one_line(texts[path])]
+
+
+def methods(texts):
+    """The number of each method and the house default, by the engine, which must be the definition's."""
+    numbers = {name: int(digit) for digit, name in re.findall(r"(\d) => Method::(\w+),", texts[METHOD])}
+    default = only(r"fn house_default\(\) -> Method\n.*\n{\n    Method::(\w+)\n}", texts[METHOD])
+    defined = {name: int(digit) for name, digit in re.findall(r"^methodNumber (\w+) = (\d)$", texts[LATENCY], re.M)}
+    if numbers != defined or default != only(r"^houseDefault = (\w+)$", texts[LATENCY]):
+        raise LookupError(f"{METHOD} has {numbers} and by default {default}, and {LATENCY} has not")
+    return numbers, default
+
+
+def faults_of_methods(texts):
+    numbers, default = methods(texts)
+    found = {name: int(digit) for name, digit in re.findall(r"#define LINGFALLOW_METHOD_(\w+) (\d+)", texts[HEADER])}
+    meaning = f"0 asks for the house default, which is {default}: the reply is that of method {numbers[default]}, and"
+    listed_methods = ", ".join(f"{number} is {name}" for name, number in numbers.items())
+    faults = [] if found == {"DEFAULT": 0, **numbers} else [f"{HEADER}: the methods are {found}"]
+    return faults + faults_of_absent(texts, [
+        (HEADER, f"{meaning} a plan keeps its 0"), (FORMAT, f"Method {listed_methods}. {meaning} `bounds` prints `method {numbers[default]}`."),
+        (PRINTED, f"the method really used ({numbers[default]} where the plan has 0)")])
+
+
+def faults_of_conversion(texts):
+    """The byte that is rewritten is the table's method, and both texts say which, from what and to what; what it was is the method of that number."""
+    place = int(only(r"^const METHOD: usize = (\d+);$", texts[CONVERTER]))
+    old, new = map(int, only(r"if plan\[METHOD\] == (\d+) {\n *plan\[METHOD\] = (\d+);\n", texts[CONVERTER]))
+    offset = next(field.offset for field in fields(texts[TABLE]) if field.name == "method")
+    before = next((name for name, number in methods(texts)[0].items() if number == new), None)
+    faults = [] if place == offset else [f"{CONVERTER}: writes at {place}, and the method is at {offset}"]
+    return faults + faults_of_absent(texts, [
+        (HEADER, f"it was {before}, the reply that of method {new}: lingfallow_convert"),
+        (HEADER, f"method {old}, which was {before} then, becomes {new}, which is {before} still"),
+        (HEADER, f"If the byte at offset {offset}, the method, was {old}, it is {new} now"),
+        (FORMAT, f"it was {before} ("),
+        (FORMAT, f"writes {new} over a method of {old}: the byte at offset {offset},"),
+        (FORMAT, f"{new} is {before} in every version")])
+
+
+def faults_of_stack(texts):
+    told = re.findall(r"under (\d+) KiB of stack", one_line(texts[HEADER]))
+    limits = re.findall(r"\w+_STACK = (\d+) \* 1024", texts[MEMORY])
+    return [] if told == limits and len(told) == 3 else [f"{HEADER}: stacks under {told} KiB, and {MEMORY} has {limits}"]
+
+
 def faults_of_version(texts):
     parts = [only(rf"#define LINGFALLOW_VERSION_{part} (\d+)", texts[HEADER]) for part in ("MAJOR", "MINOR", "PATCH")]
     last = re.search(r"^## ([\d.]+) ", texts[CHANGES], re.M)[1]
@@ -231,7 +286,8 @@ def faults_of_version(texts):
 
 
 def faults_of(texts):
-    checks = (faults_of_macros, faults_of_refusals, faults_of_picture, faults_of_format, faults_of_reply, faults_of_sizes, faults_of_version)
+    checks = (faults_of_macros, faults_of_refusals, faults_of_picture, faults_of_format, faults_of_reply, faults_of_sizes, faults_of_methods,
+              faults_of_conversion, faults_of_stack, faults_of_version)
     try:
         return [fault for check in checks for fault in check(texts)]
     except LookupError as error:
@@ -276,7 +332,7 @@ PLANTED = [
     (HEADER, "8     4  bound:", "8     2  bound:"),
     (HEADER, "LONGEST_PLAN 1485", "LONGEST_PLAN 1484"),
     (HEADER, "LONGEST_REPLY 1027", "LONGEST_REPLY 1024"),
-    (HEADER, "VERSION_MINOR 7", "VERSION_MINOR 6"),
+    (HEADER, "VERSION_MINOR 8", "VERSION_MINOR 7"),
     (FORMAT, "| link cycles | 1..16 |", "| link cycles | 1..32 |"),
     (FORMAT, "link cycles 0 or above 16", "link cycles 0 or above 32"),
     (FORMAT, "| 15 | 4 | deadline | 1..period | 36, 38 |", "| 15 | 4 | deadline | 1..period | 36, 37 |"),
@@ -298,7 +354,30 @@ PLANTED = [
     (BYTES, '("flow", (20,))', '("flow", (23,))'),
     (BYTES, '("platform", (6, 7))', '("platform", (6,))'),
     (BYTES, '("platform", (6, 7))', '("platform", (6, 7, 8))'),
-    (CHANGES, "## 0.7.0 ", "## 0.8.0 "),
+    (CHANGES, "## 0.8.0 ", "## 0.9.0 "),
+    (METHOD, "    Method::IBN\n}", "    Method::XLWX\n}"),
+    (METHOD, "1 => Method::SB", "1 => Method::XLWX"),
+    (LATENCY, "houseDefault = IBN", "houseDefault = XLWX"),
+    (LATENCY, "methodNumber IBN = 3", "methodNumber IBN = 2"),
+    (HEADER, "METHOD_XLWX 2", "METHOD_XLWX 1"),
+    (HEADER, "METHOD_DEFAULT 0", "METHOD_DEFAULT 3"),
+    (HEADER, "the house default, which is IBN", "the house default, which is XLWX"),
+    (HEADER, "the reply is that of method 3", "the reply is that of method 2"),
+    (FORMAT, "Method 1 is SB, 2 is XLWX", "Method 1 is XLWX, 2 is SB"),
+    (FORMAT, "the house default, which is IBN", "the house default, which is XLWX"),
+    (FORMAT, "`bounds` prints `method 3`", "`bounds` prints `method 2`"),
+    (PRINTED, "(3 where the plan has 0)", "(2 where the plan has 0)"),
+    (CONVERTER, "plan[METHOD] = 2", "plan[METHOD] = 1"),
+    (CONVERTER, "METHOD: usize = 8", "METHOD: usize = 9"),
+    (CONVERTER, "plan[METHOD] == 0", "plan[METHOD] == 1"),
+    (HEADER, "it was XLWX, the reply that of method 2", "it was SB, the reply that of method 2"),
+    (HEADER, "becomes 2, which is XLWX", "becomes 2, which is SB"),
+    (HEADER, "byte at offset 8, the method", "byte at offset 9, the method"),
+    (HEADER, "was 0, it is 2 now", "was 0, it is 3 now"),
+    (FORMAT, "writes 2 over a method of 0: the byte at offset 8", "writes 2 over a method of 0: the byte at offset 5"),
+    (FORMAT, "2 is XLWX in every version", "2 is IBN in every version"),
+    (HEADER, "1 KiB of stack", "2 KiB of stack"),
+    (MEMORY, "CONVERT_STACK = 1 * 1024", "CONVERT_STACK = 2 * 1024"),
 ]
 
 

@@ -46,11 +46,13 @@ need_compilers() {
 # The libraries for C and Rust, and the program.
 analyser=target/staticlib/libanalyser.a
 writer=target/staticlib/libwriter.a
+converter=target/staticlib/libconverter.a
 bounds=target/bin/bounds
 
 build_archives() {
   if stale "$analyser"; then rt staticlib analyser; fi
   if stale "$writer"; then rt staticlib writer; fi
+  if stale "$converter"; then rt staticlib converter; fi
 }
 
 # Behind it `bounds` is what a test, or a program under test, can start.
