@@ -17,7 +17,7 @@ build_bounds
 
 mkdir -p target/independent
 "${rust[@]}" --edition 2021 -O -D warnings -L native=target/staticlib -l static=analyser -l static=writer \
-  -o "$witness" tests/independent/main.rs
+  -l static=converter -o "$witness" tests/independent/main.rs
 
 case "${1:-}" in
 --help)

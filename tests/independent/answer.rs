@@ -1,10 +1,11 @@
 //! What is expected for a plan's bytes: a refusal, or the reply and the text.
 
 use crate::claims;
-use crate::law::{Law, Rule};
+use crate::law::Law;
 use crate::model::{bytes_of, Flow, Number, Plan};
 use crate::pairs::Pair;
 use crate::reading::{read, Refusal};
+use crate::rule_table::Rule;
 use crate::rules::{method_used, Analysis, Verdict};
 
 /// A flow with what was found of it.

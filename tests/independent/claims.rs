@@ -3,9 +3,9 @@
 use crate::model::{Flow, Number};
 use crate::rules::{Analysis, Term, Verdict};
 
-type Claim = Result<(), String>;
+pub type Claim = Result<(), String>;
 
-fn claim(holds: bool, words: impl Fn() -> String) -> Claim {
+pub fn claim(holds: bool, words: impl Fn() -> String) -> Claim {
     if holds {
         Ok(())
     } else {

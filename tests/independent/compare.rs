@@ -2,11 +2,12 @@
 
 use crate::answer::{expect, Accepted, Expected};
 use crate::disagreement::{agree, differ, hex, same_call, Called, Disagreement};
-use crate::law::{Law, Rule};
+use crate::law::Law;
 use crate::product::{call_library, run_program, Lent, Returned};
 use crate::raised;
 use crate::random::Random;
 use crate::reading::Refusal;
+use crate::rule_table::Rule;
 use crate::tally::Tally;
 use std::io;
 
@@ -109,7 +110,7 @@ impl Trial<'_> {
         Ok(came.returned.number)
     }
 
-    fn text(&self, program: &str, expected: &Expected, random: &mut Random) -> Result<(), Disagreement> {
+    pub fn text(&self, program: &str, expected: &Expected, random: &mut Random) -> Result<(), Disagreement> {
         let pieces = if random.below(64) == 0 { PIECES } else { 1 };
         let unable =
             |error: io::Error| differ(self.bytes, "the program", "that it runs".to_string(), error.to_string());

@@ -1,8 +1,9 @@
 //! The fixed list: plan P with its reply and text, every row of "Figures to meet", typed from document 01, every
-//! refusal of a field, typed from L2 of document 02, the rows of L3, the corners of L4, and the rows of L7.
+//! refusal of a field, typed from L2 of document 02, the rows of L3, the corners of L4, and the rows of L6 and L7.
 
 use crate::answer::Expected;
 use crate::compare::Trial;
+use crate::converted::{self, Converted};
 use crate::corners::{Corner, Turned, MESH, PAIRS, PLANS};
 use crate::disagreement::{agree, hex, Disagreement};
 use crate::edits::writing_of;
@@ -13,6 +14,7 @@ use crate::product::{call_library, Lent};
 use crate::random::Random;
 use crate::reading::plan_at;
 use crate::rules::Analysis;
+use crate::stored;
 use crate::tally::Tally;
 use crate::ticks::{Large, LARGE, TICK_ROWS};
 use crate::written::{self, give_back};
@@ -42,8 +44,8 @@ pub const FLOW_2: usize = 9;
 pub const FLOW_3: usize = 32;
 pub const FLOW_5: usize = 55;
 pub const FLOWS: usize = 3;
-const END: usize = 78;
-const SOURCE: usize = 7;
+pub const END: usize = 78;
+pub const SOURCE: usize = 7;
 pub const PERIOD: usize = 11;
 pub const DEADLINE: usize = 15;
 pub const JITTER: usize = 19;
@@ -55,7 +57,7 @@ const ROWS: &[Row] = &[
     (&[], &["2 bounded 62 rounds 1", "3 bounded 328 rounds 2", "5 bounded 396 rounds 2"]),
     (&[(METHOD, &[1])], &["5 bounded 336 rounds 2"]),
     (&[(METHOD, &[2])], &["5 bounded 460 rounds 2"]),
-    (&[(METHOD, &[0])], &["5 bounded 460 rounds 2", "mesh 6x1 link 1 route 0 buffer 10 method 2"]),
+    (&[(METHOD, &[0])], &["5 bounded 396 rounds 2", "mesh 6x1 link 1 route 0 buffer 10 method 3"]),
     (&[(BUFFER, &[2])], &["5 bounded 348 rounds 2"]),
     (&[(FLOW_3 + DEADLINE, &[0, 0, 1, 0x48])], &["3 bounded 328 rounds 2"]),
     (&[(FLOW_3 + DEADLINE, &[0, 0, 1, 0x47])], &["3 late rounds 1", "5 waits 3"]),
@@ -139,13 +141,28 @@ pub struct Fixed<'a> {
     plans: usize,
 }
 
-impl Fixed<'_> {
+impl<'a> Fixed<'a> {
+    pub fn new(program: &'a str, tally: &'a mut Tally) -> Fixed<'a> {
+        Fixed { program, tally, plans: 0 }
+    }
+
     pub fn agree(&mut self, bytes: &[u8]) -> Result<Expected, Disagreement> {
         self.plans += 1;
         let (mut random, trial) = (Random::of_plan(0, self.plans as u64), Trial { bytes, law: Law::WHOLE });
         let expected = trial.compare(self.program, &mut random, self.tally)?;
         give_back(bytes, Law::WHOLE, &mut random, self.tally)?;
+        self.convert(bytes, &mut random)?;
         Ok(expected)
+    }
+
+    /// The program shows a converted plan too, which for random plans would take long in an emulator.
+    fn convert(&mut self, bytes: &[u8], random: &mut Random) -> Result<(), Disagreement> {
+        match converted::compare(bytes, Law::WHOLE, random, self.tally)? {
+            Some(Converted { bytes: left, expected }) if left != bytes => {
+                Trial { bytes: &left, law: Law::WHOLE }.text(self.program, &expected, random)
+            }
+            _ => Ok(()),
+        }
     }
 
     fn plan_p(&mut self) -> Result<(), Disagreement> {
@@ -271,7 +288,7 @@ fn wrong_turns() -> Result<(), Disagreement> {
 
 /// Gives back how many plans it tried.
 pub fn check(program: &str, tally: &mut Tally) -> Result<usize, Disagreement> {
-    let mut fixed = Fixed { program, tally, plans: 0 };
+    let mut fixed = Fixed::new(program, tally);
     wrong_turns()?;
     fixed.plan_p()?;
     for row in ROWS.iter().chain(TICK_ROWS) {
@@ -286,6 +303,7 @@ pub fn check(program: &str, tally: &mut Tally) -> Result<usize, Disagreement> {
     fixed.fields_outside()?;
     fixed.shorter_plans()?;
     priority_flits::check(&mut fixed)?;
+    stored::check(&mut fixed)?;
     for plan in LARGE {
         fixed.large(plan)?;
     }

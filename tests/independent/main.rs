@@ -1,9 +1,13 @@
-//! An independent second witness: document 01 with the requests L1 to L4 and L7 of document 02, worked out by other
+//! An independent second witness: document 01 with the requests L1 to L4, L6 and L7 of document 02, worked out by other
 //! means and compared with the product.
 
 mod answer;
 mod claims;
 mod compare;
+mod conversion_claims;
+mod conversions;
+mod converted;
+mod converting;
 mod corners;
 mod counts;
 mod damage;
@@ -15,25 +19,33 @@ mod law;
 mod model;
 mod pairs;
 mod plans;
+mod planted;
 mod priority_flits;
 mod product;
 mod raised;
 mod random;
 mod reading;
+mod refusals;
 mod routes;
+mod rule_table;
 mod rules;
 mod seen;
 mod sevenths;
+mod stored;
 mod tally;
 mod ticks;
 mod turns;
 mod writing;
 mod written;
+mod zeros;
 
 use compare::Trial;
 use disagreement::{hex, Disagreement};
-use law::{plants, Law, Laws, Planted};
+use figures::Fixed;
+use law::Laws;
+use planted::{plants, Planted};
 use random::Random;
+use std::io::{self, ErrorKind, Write};
 use std::process::ExitCode;
 use std::time::Instant;
 use tally::Tally;
@@ -52,31 +64,35 @@ independent PROGRAM --plant NAME [COUNT [SEED]]
 independent PROGRAM --planted          do so for every planted fault
 independent --help                     this text and the planted faults
 
-PROGRAM is the path of the program `bounds`. Each plan is analysed, and written again from what was read of it; with
-each of the COUNT plans, other numbers made from SEED are written too.";
+PROGRAM is the path of the program `bounds`. Each plan is analysed, written again from what was read of it, and
+converted twice; with each of the COUNT plans, other numbers made from SEED are written too.";
 
 /// The first disagreement, with how many plans were tried.
 type Failure = (u64, Disagreement);
 
 fn run(program: &str, laws: Laws, count: u64, seed: u64, tally: &mut Tally) -> Result<(), Failure> {
     for index in 0..count {
-        try_both(program, laws, seed, index, tally).map_err(|disagreement| (index + 1, disagreement))?;
+        try_all(program, laws, seed, index, tally).map_err(|disagreement| (index + 1, disagreement))?;
     }
     Ok(())
 }
 
-/// A plan's bytes to analyse and numbers to write. A fault planted on one side cannot show on the other.
-fn try_both(program: &str, laws: Laws, seed: u64, index: u64, tally: &mut Tally) -> Result<(), Disagreement> {
+/// A plan's bytes to analyse and to convert, and numbers to write.
+fn try_all(program: &str, laws: Laws, seed: u64, index: u64, tally: &mut Tally) -> Result<(), Disagreement> {
     let mut random = Random::of_plan(seed, index);
     let bytes = turns::bytes_at(index, &mut random);
-    if laws.writing.is_whole() {
+    if laws.concern(laws.analysing) {
         Trial { bytes: &bytes, law: laws.analysing }.compare(program, &mut random, tally)?;
     }
-    if laws.analysing.is_whole() {
+    if laws.concern(laws.writing) {
         let mut random = Random::of_writing(seed, index);
         written::give_back(&bytes, laws.writing, &mut random, tally)?;
         let writing = turns::writing_at(index, &mut random);
         written::compare(&writing, laws.writing, &mut random, tally)?;
+    }
+    if laws.concern(laws.converting) {
+        let mut random = Random::of_converting(seed, index);
+        converted::compare(&bytes, laws.converting, &mut random, tally)?;
     }
     Ok(())
 }
@@ -125,11 +141,8 @@ fn compare_one(program: &str, text: &str) -> bool {
         Some(bytes) => bytes,
         None => return usage(),
     };
-    let (mut random, mut tally) = (Random::of_plan(0, 0), Tally::default());
-    let compared = Trial { bytes: &bytes, law: Law::WHOLE }.compare(program, &mut random, &mut tally);
-    let given_back = |text| written::give_back(&bytes, Law::WHOLE, &mut random, &mut tally).map(|()| text);
-    match compared.map(|expected| expected.text).and_then(given_back) {
-        Ok(text) => print!("{text}"),
+    match Fixed::new(program, &mut Tally::default()).agree(&bytes) {
+        Ok(expected) => print!("{}", expected.text),
         Err(disagreement) => {
             show(&(1, disagreement));
             return false;
@@ -173,12 +186,20 @@ fn every_planted(program: &str) -> bool {
     missed == 0
 }
 
-fn usage() -> bool {
-    println!("{HELP}");
+fn write_help(mut out: impl Write) -> io::Result<()> {
+    writeln!(out, "{HELP}")?;
     for Planted { name, words, .. } in plants() {
-        println!("  {name}: {words}");
+        writeln!(out, "  {name}: {words}")?;
     }
-    false
+    Ok(())
+}
+
+/// A reader such as `head`, which closes the pipe when it has enough, is no failure.
+fn usage() -> bool {
+    match write_help(io::stdout().lock()) {
+        Err(error) if error.kind() != ErrorKind::BrokenPipe => panic!("the help cannot be written: {error}"),
+        _ => false,
+    }
 }
 
 fn numbers(words: &[&str]) -> Option<(u64, u64)> {

@@ -81,6 +81,7 @@ pub const BILLION: Number = 1_000_000_000;
 pub const MOST_FLITS: Number = 65_535;
 pub const COLUMNS: usize = 3;
 pub const ROWS: usize = 4;
+pub const ROUTING: usize = 6;
 pub const METHOD: usize = 8;
 pub const PRIORITY_FLITS: usize = 9;
 pub const ID: usize = 3;
@@ -99,7 +100,7 @@ pub const PLATFORM_FIELDS: [Field; 7] = [
     field(20, "columns", COLUMNS, 1, 1, High::Fixed(8)),
     field(21, "rows", ROWS, 1, 1, High::Fixed(8)),
     field(22, "link", 5, 1, 1, High::Fixed(16)),
-    field(23, "routing", 6, 1, 0, High::Fixed(16)),
+    field(23, "routing", ROUTING, 1, 0, High::Fixed(16)),
     field(24, "buffer", 7, 1, 1, High::Fixed(64)),
     field(25, "method", METHOD, 1, 0, High::Fixed(3)),
     field(26, SEVENTH, PRIORITY_FLITS, 1, 1, High::Fixed(8)),

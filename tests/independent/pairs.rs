@@ -2,9 +2,10 @@
 //! wrong closed form would give. Where no fault is planted both come from the sets of links.
 
 use crate::counts::{Case, Counted};
-use crate::law::{Law, Rule};
+use crate::law::Law;
 use crate::model::{Flow, Number, Platform};
 use crate::routes::{part_of, place_of, Link, Part};
+use crate::rule_table::Rule;
 
 /// A flow's hops along its row or its column: the number of that line, and from where to where in it.
 #[derive(Clone, Copy, PartialEq)]

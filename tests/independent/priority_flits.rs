@@ -23,7 +23,7 @@ const FLITS: usize = 9;
 
 /// A platform record, the bytes changed in P's flows behind it at their places in P, and lines that the text must have.
 type Headed = (&'static str, Changes, &'static [&'static str]);
-type Changes = &'static [(usize, &'static [u8])];
+pub type Changes = &'static [(usize, &'static [u8])];
 
 /// Flow 2's flits 0, which is outside their values.
 const NO_FLITS: Changes = &[(FLOW_2 + FLITS, &[0, 0])];
@@ -57,10 +57,10 @@ const HEADED: &[Headed] = &[
         "01 0007 06 01 01 00 0A 00 02",
         &[],
         &[
-            "mesh 6x1 link 1 route 0 buffer 10 method 2",
+            "mesh 6x1 link 1 route 0 buffer 10 method 3",
             "2 bounded 64 rounds 1",
             "3 bounded 334 rounds 2",
-            "5 bounded 468 rounds 2",
+            "5 bounded 400 rounds 2",
         ],
     ),
     (
@@ -93,7 +93,7 @@ const HEADED: &[Headed] = &[
     (
         "01 0007 06 01 01 00 0A 00 01",
         &[],
-        &["2 bounded 63 rounds 1", "3 bounded 331 rounds 2", "5 bounded 464 rounds 2"],
+        &["2 bounded 63 rounds 1", "3 bounded 331 rounds 2", "5 bounded 398 rounds 2"],
     ),
     (
         "01 0007 06 01 01 00 0A 03 01",
@@ -114,7 +114,7 @@ const HEADED: &[Headed] = &[
     (
         "01 0007 06 01 01 00 0A 00 08",
         &[],
-        &["2 bounded 70 rounds 1", "3 bounded 352 rounds 2", "5 bounded 492 rounds 2"],
+        &["2 bounded 70 rounds 1", "3 bounded 352 rounds 2", "5 bounded 412 rounds 2"],
     ),
     (
         "01 0007 06 01 01 00 0A 03 08",
@@ -319,11 +319,11 @@ const REFUSED: &[Refused] = &[
 const SEVENTH_OUTSIDE: &[Outside] = &[(9, &[0], 26), (9, &[9], 26), (9, &[255], 26)];
 
 /// P behind this platform record.
-fn headed(platform: &str, changes: Changes) -> Vec<u8> {
+pub fn headed(platform: &str, changes: Changes) -> Vec<u8> {
     [typed(platform), changed(&typed(P), changes)[FLOW_2..].to_vec()].concat()
 }
 
-fn crowd(platform: &str, count: u16) -> Vec<u8> {
+pub fn crowd(platform: &str, count: u16) -> Vec<u8> {
     let flow = |id: u16| format!("02 0014 {id:04X} {:04X} 00 01 0001 3B9ACA00 3B9ACA00 00000000", id + 1);
     let flows: String = (0..count).map(flow).collect();
     typed(&format!("{platform} {flows} 7F 0000"))

@@ -49,6 +49,7 @@ pub struct PlanNumbers {
 extern "C" {
     fn lingfallow_analyse(plan: *const u8, plan_length: usize, reply: *mut u8, reply_length: usize) -> Returned;
     fn lingfallow_write(plan: PlanNumbers, bytes: *mut u8, length: usize) -> Returned;
+    fn lingfallow_convert(plan: *mut u8, plan_length: usize) -> Returned;
 }
 
 /// No value may be cut here, or another one would be written than was meant.
@@ -138,6 +139,12 @@ pub fn call_library(plan: &mut Lent, reply: &mut Lent) -> Returned {
 pub fn call_writer(plan: PlanNumbers, buffer: &mut Lent) -> Returned {
     // The pointer and the length lie inside the vector, as `start` has seen.
     unsafe { lingfallow_write(plan, buffer.start(), buffer.length) }
+}
+
+/// The like for converting.
+pub fn call_converter(plan: &mut Lent) -> Returned {
+    // The pointer and the length lie inside the vector, as `start` has seen.
+    unsafe { lingfallow_convert(plan.start(), plan.length) }
 }
 
 /// In several pieces now and then, as a pipe may bring them.

@@ -19,6 +19,11 @@ impl Random {
         Random::of_plan(!seed, index)
     }
 
+    /// And so has a conversion.
+    pub fn of_converting(seed: u64, index: u64) -> Random {
+        Random::of_plan(seed ^ (1 << 63), index)
+    }
+
     pub fn next(&mut self) -> u64 {
         self.state = self.state.wrapping_add(0x9E37_79B9_7F4A_7C15);
         let mut mixed = self.state;

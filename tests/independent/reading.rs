@@ -2,8 +2,9 @@
 //! A record can be reached only when those before it are faultless, so its start follows from its index and the length
 //! of the platform record.
 
-use crate::law::{Law, Rule};
+use crate::law::Law;
 use crate::model::*;
+use crate::rule_table::Rule;
 use std::collections::BTreeSet;
 
 #[derive(Clone, Copy, Debug, PartialEq, Eq)]

@@ -1,7 +1,8 @@
 //! Routes as lists of directed links, and the links that two routes share.
 
-use crate::law::{Law, Rule};
+use crate::law::Law;
 use crate::model::{Flow, Number, Plan, Platform};
+use crate::rule_table::Rule;
 use std::collections::BTreeSet;
 
 /// From one node to another; injection comes from outside of the mesh, ejection goes there.

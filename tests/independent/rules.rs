@@ -1,9 +1,10 @@
 //! The analysis: who delays whom, the three recurrences, verdicts and rounds. A bound is worked out when asked for.
 
-use crate::law::{Law, Rule};
+use crate::law::Law;
 use crate::model::{Flow, Number, Plan, Platform, MOST_FLITS};
 use crate::pairs::Pair;
 use crate::routes::{route, shared_places, Link, Places};
+use crate::rule_table::Rule;
 use std::cell::RefCell;
 
 #[derive(Clone, Copy, Debug, PartialEq, Eq)]
@@ -29,9 +30,9 @@ pub struct Analysis<'a> {
     known: RefCell<Vec<Option<Verdict>>>,
 }
 
-const SB: Number = 1;
-const XLWX: Number = 2;
-const IBN: Number = 3;
+pub const SB: Number = 1;
+pub const XLWX: Number = 2;
+pub const IBN: Number = 3;
 
 /// Up to so many values of a window are tried one by one.
 const TRIES: Number = 3000;
@@ -39,8 +40,8 @@ const TRIES: Number = 3000;
 pub fn method_used(platform: &Platform, law: Law) -> Number {
     match platform.method {
         0 if law.breaks(Rule::MethodZeroSb) => SB,
-        0 if law.breaks(Rule::MethodZeroIbn) => IBN,
-        0 => XLWX,
+        0 if law.breaks(Rule::MethodZeroXlwx) => XLWX,
+        0 => IBN,
         other => other,
     }
 }

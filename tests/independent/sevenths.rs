@@ -113,7 +113,7 @@ fn cut_behind_seventh(random: &mut Random) -> Records {
 }
 
 /// So many flows behind these priority flits.
-fn crowded(count: usize, priority_flits: Number, random: &mut Random) -> Records {
+pub fn crowded(count: usize, priority_flits: Number, random: &mut Random) -> Records {
     let mut plan = crowded_plan(count, random);
     plan.platform.priority_flits = priority_flits;
     plan.records()

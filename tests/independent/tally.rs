@@ -1,15 +1,17 @@
 //! What a run has seen. A test that cannot see a case is no test, so a run of the tests' size demands all of them.
 
 use crate::answer::{Accepted, Expected, Judged};
+use crate::conversions::Conversion;
 use crate::counts::Counts;
-use crate::law::{refusals, refusals_of_writing};
 use crate::model::{is_of_flow, Number, Plan};
 use crate::pairs::Pair;
 use crate::product::Returned;
 use crate::reading::start_of;
+use crate::refusals::{refusals, refusals_of_reading, refusals_of_writing};
 use crate::rules::Verdict;
 use crate::seen::{Analysed, Asked};
 use crate::writing::Writing;
+use crate::zeros::refusals_with_zero;
 use std::collections::{BTreeMap, BTreeSet};
 
 /// How often each number was met, and at which places.
@@ -76,6 +78,9 @@ pub struct Tally {
     given_back_sevenths: usize,
     raised: usize,
     written_counts: BTreeSet<usize>,
+    conversions: Counts<Conversion>,
+    /// Plans to convert that are refused with a 0 where the method stands.
+    zeros_refused: Met,
     meshes: BTreeSet<(Number, Number)>,
     methods: BTreeSet<Number>,
     flow_counts: BTreeSet<usize>,
@@ -106,6 +111,13 @@ impl Tally {
     /// A plan's answers were those of the plan with its flits raised.
     pub fn raised(&mut self) {
         self.raised += 1;
+    }
+
+    pub fn converted(&mut self, conversion: &Conversion) {
+        self.conversions.count(conversion);
+        if let Some(refusal) = conversion.refused_with_zero() {
+            self.zeros_refused.add(refusal.number, refusal.place);
+        }
     }
 
     pub fn count(&mut self, bytes: &[u8], expected: &Expected) {
@@ -153,7 +165,7 @@ impl Tally {
 
     pub fn print(&self) {
         println!("plans accepted: {}", self.accepted);
-        for number in refusals().into_iter().filter(|number| *number != 11) {
+        for number in refusals_of_reading() {
             println!("plans refused {number}: {}", self.refused.times(number));
         }
         println!("library calls: {}, of them refused 11: {}", self.calls, self.refused.times(11));
@@ -177,11 +189,16 @@ impl Tally {
         println!("flow counts written: {}", self.written_counts.len());
         let (given_back, sevenths) = (self.given_back, self.given_back_sevenths);
         println!("plans given back by writing what was read: {given_back}, of them with a seventh byte: {sevenths}");
+        self.conversions.print();
+        for number in refusals_with_zero() {
+            println!("conversions refused {number} with 0 for the method: {}", self.zeros_refused.times(number));
+        }
     }
 
     /// The cases that never occurred.
     pub fn unseen(&self) -> Vec<String> {
         let of_plans = self.refused.cases(refusals(), "");
+        let of_zeros = self.zeros_refused.cases(refusals_with_zero(), " of a conversion with 0 for the method");
         let of_writings = self.written.cases(refusals_of_writing(), " of a writing");
         let others = [
             ("acceptance", self.accepted > 0),
@@ -205,7 +222,7 @@ impl Tally {
         ];
         let others = others.iter().map(|(name, seen)| (name.to_string(), *seen)).collect();
         let counted = [self.jitters.cases(), self.pairs.cases(), self.sevenths.cases(), self.sevenths_written.cases()];
-        let all = [of_plans, of_writings, others, counted.concat()].concat();
+        let all = [of_plans, of_writings, of_zeros, others, counted.concat(), self.conversions.cases()].concat();
         all.into_iter().filter(|(_, seen)| !seen).map(|(name, _)| name).collect()
     }
 }

@@ -35,7 +35,7 @@ pub const TICK_ROWS: &[Row] = &[
     // 460, 788, 1116, 1116; by IBN x + 196 and packets of 264: 132, 396, 660, 924, 924.
     (&[(FLOW_3 + PERIOD, FLOW_3_JUST_MET), (METHOD, &[1])], &["3 bounded 328 rounds 2", "5 bounded 540 rounds 3"]),
     (&[(FLOW_3 + PERIOD, FLOW_3_JUST_MET), (METHOD, &[2])], &["3 bounded 328 rounds 2", "5 bounded 1116 rounds 4"]),
-    (&[(FLOW_3 + PERIOD, FLOW_3_JUST_MET), (METHOD, &[0])], &["3 bounded 328 rounds 2", "5 bounded 1116 rounds 4"]),
+    (&[(FLOW_3 + PERIOD, FLOW_3_JUST_MET), (METHOD, &[0])], &["3 bounded 328 rounds 2", "5 bounded 924 rounds 4"]),
     (&[(FLOW_3 + PERIOD, FLOW_3_JUST_MET)], &["3 bounded 328 rounds 2", "5 bounded 924 rounds 4"]),
     (&[(FLOW_3 + PERIOD, &[0, 0, 1, 0x90, 0, 0, 1, 0x90, 0, 0, 0, 73])], &["3 late rounds 1", "5 waits 3"]),
     // Then flow 5 with deadline 1,000: by 76 its 924 are just met, by 77 not; by 340 its 660, by 341 not.

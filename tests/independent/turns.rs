@@ -1,6 +1,6 @@
 //! What is tried at an index: a case in its turn, or what chance makes. By chance alone a run of some thousand plans
-//! could miss a refusal of a field, a seventh byte or a number of flows, and a fault planted there would take long to
-//! be caught.
+//! could miss a refusal of a field, a seventh byte, a refusal of a plan with method 0 or a number of flows, and a fault
+//! planted there would take long to be caught.
 
 use crate::damage::{nodes_in, refuse, some_bytes, Records};
 use crate::edits::{some_writing, writing_of};
@@ -8,23 +8,29 @@ use crate::model::{field_refusals, is_of_flow, is_of_seventh, Number, FLOW_FIELD
 use crate::plans::{crowded_plan, good_plan};
 use crate::random::Random;
 use crate::reading::{plan_at, MOST_FLOWS};
-use crate::sevenths::{bytes_in_turn, writing_in_turn};
+use crate::sevenths;
 use crate::writing::Writing;
+use crate::zeros;
 
-/// One of so many plans has the next refusal of a field, one of so many the next kind of seventh byte, and one of so
-/// many the next number of flows.
+/// One of so many plans has the next refusal of a field, one of so many the next kind of seventh byte, one of so many
+/// the next kind with method 0, and one of so many the next number of flows.
 const REFUSAL_EVERY: u64 = 8;
 const SEVENTH_EVERY: u64 = 16;
+const ZERO_EVERY: u64 = 16;
 const FLOWS_EVERY: u64 = 32;
 
-/// The first index of each of the latter two; those of the refusals start at 0, and no index has two.
+/// The first index of each of the latter three; those of the refusals start at 0, and no index has two.
 const FIRST_SEVENTH: u64 = 2;
+const FIRST_ZERO: u64 = 6;
 const FIRST_FLOWS: u64 = 4;
 
 /// The bytes to analyse.
 pub fn bytes_at(index: u64, random: &mut Random) -> Vec<u8> {
     if let Some(turn) = turn_of_seventh(index) {
-        return bytes_in_turn(turn, random);
+        return sevenths::bytes_in_turn(turn, random);
+    }
+    if index % ZERO_EVERY == FIRST_ZERO {
+        return zeros::bytes_in_turn((index / ZERO_EVERY) as usize, random);
     }
     match in_turn(index, random) {
         Some(records) => records.concat(),
@@ -39,7 +45,7 @@ fn turn_of_seventh(index: u64) -> Option<usize> {
 /// The numbers to write.
 pub fn writing_at(index: u64, random: &mut Random) -> Writing {
     if let Some(turn) = turn_of_seventh(index) {
-        return writing_in_turn(turn, random);
+        return sevenths::writing_in_turn(turn, random);
     }
     match in_turn(index, random) {
         Some(records) => {

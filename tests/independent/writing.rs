@@ -1,11 +1,12 @@
 //! What is expected of numbers to write: the plan's bytes, what is returned, and what the buffer holds.
 
 use crate::disagreement::Called;
-use crate::law::{Law, Rule};
+use crate::law::Law;
 use crate::model::*;
 use crate::product::{Lent, Returned};
 use crate::reading::{read, start_of, Refusal, LONGEST_BEFORE, MOST_FLOWS};
-use crate::rules::method_used;
+use crate::rule_table::Rule;
+use crate::rules::{IBN, XLWX};
 use std::mem::swap;
 
 /// The numbers that are handed over.
@@ -80,7 +81,7 @@ impl Due {
     /// Writing what was read gives the bytes that it was read from.
     pub fn same(bytes: &[u8], plan: &Plan, law: Law) -> Due {
         let mut other = plan.clone();
-        use_method(&mut other, law, Rule::RewriteMethod);
+        replace_zero(&mut other, law, [Rule::RewriteXlwx, Rule::RewriteIbn]);
         reverse(&mut other, law, Rule::RewriteReversed);
         no_priority_flits(&mut other, law, Rule::RewriteSix);
         let mut bytes = if other == *plan { bytes.to_vec() } else { other.records().concat() };
@@ -131,10 +132,13 @@ impl Due {
     }
 }
 
-/// The method really used takes the place of the one asked for, if this rule is broken.
-pub fn use_method(plan: &mut Plan, law: Law, rule: Rule) {
-    if law.breaks(rule) {
-        plan.platform.method = method_used(&plan.platform, Law::WHOLE);
+/// Another method takes the place of 0: XLWX if the first of these rules is broken, IBN if the second is.
+pub fn replace_zero(plan: &mut Plan, law: Law, [as_xlwx, as_ibn]: [Rule; 2]) {
+    let method = &mut plan.platform.method;
+    match law.broken() {
+        Some(rule) if rule == as_xlwx && *method == 0 => *method = XLWX,
+        Some(rule) if rule == as_ibn && *method == 0 => *method = IBN,
+        _ => {}
     }
 }
 
@@ -201,7 +205,7 @@ fn misspelt(plan: Plan, law: Law) -> Vec<u8> {
 }
 
 fn wrong_numbers(mut plan: Plan, law: Law) -> Plan {
-    use_method(&mut plan, law, Rule::WriteMethod);
+    replace_zero(&mut plan, law, [Rule::WriteXlwx, Rule::WriteIbn]);
     reverse(&mut plan, law, Rule::WriteReversed);
     if law.breaks(Rule::WriteByPriority) {
         plan.flows.sort_by_key(|flow| flow.priority);

@@ -3,15 +3,16 @@
 use crate::compare::Trial;
 use crate::disagreement::{agree, differ, same_call, Called, Disagreement};
 use crate::edits::writing_of;
-use crate::law::{Law, Rule};
+use crate::law::Law;
 use crate::product::{call_writer, Lent, PlanNumbers};
 use crate::random::Random;
 use crate::reading::read;
+use crate::rule_table::Rule;
 use crate::tally::Tally;
-use crate::writing::{no_priority_flits, reverse, use_method, Due, Writing};
+use crate::writing::{no_priority_flits, replace_zero, reverse, Due, Writing};
 
 /// Has room for every reply.
-const REPLY: usize = 1027;
+pub const REPLY: usize = 1027;
 
 /// Longer than any plan.
 const LONG: usize = 3000;
@@ -56,7 +57,7 @@ fn call(writing: &Writing, due: &Due, length: usize, law: Law, random: &mut Rand
 /// What was written says the same numbers in the same order, and is analysed as they have to be.
 fn read_back(writing: &Writing, bytes: &[u8], law: Law, random: &mut Random) -> Result<(), Disagreement> {
     let mut due = writing.plan(law);
-    use_method(&mut due, law, Rule::RereadMethod);
+    replace_zero(&mut due, law, [Rule::RereadXlwx, Rule::RereadIbn]);
     reverse(&mut due, law, Rule::RereadReversed);
     no_priority_flits(&mut due, law, Rule::RereadNone);
     let refused = |refusal| differ(bytes, "reading what was written", "a plan".to_string(), format!("{refusal:?}"));
