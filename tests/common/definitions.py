@@ -5,6 +5,9 @@ What is mutated is the right side of an equation, the type of a record's field a
 import re
 from dataclasses import dataclass, field
 
+# The crates whose definitions are changed.
+CRATES = ["plan_values", "plan_table", "plan_checks", "plan", "writer_bytes", "writer", "mesh", "recurrence", "model", "reply", "converter", "lines_items", "lines_mesh", "lines_flow", "lines"]
+
 TOKEN = re.compile(r"--[^\n]*|\s+|[(){}\[\];,]|[^\s(){}\[\];,]+")
 NUMBER = re.compile(r"0x[0-9A-Fa-f]+|[0-9][0-9_]*")
 NAME = re.compile(r"[^\W\d_][\w′·-]*'?")
@@ -414,3 +417,11 @@ def mutants_of(crate, files, signatures):
             for kind, change, changed, brought in distinct(text, changes_of(text, definition, signatures)):
                 by_kind.setdefault(kind, []).append(Mutant(crate, file, definition.name, kind, change, imported(changed, brought, crate)))
             yield from by_kind.values()
+
+
+def all_mutants(root, crates):
+    """Those of these crates."""
+    signatures = signatures_of(path.read_text() for path in sorted((root / "crates").glob("*/specs/*.antt")))
+    for crate in crates:
+        files = {path.stem: path.read_text() for path in sorted((root / "crates" / crate / "specs").glob("*.antt"))}
+        yield from mutants_of(crate, files, signatures)

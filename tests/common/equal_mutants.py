@@ -1,4 +1,6 @@
-"""The mutants that are known to be equal in meaning: by crate and definition, then by change, with the reason. A proof's text may not fit them, an example may not refuse them."""
+"""The mutants that are known to be equal in meaning: by crate and definition, then by change, with the reason. A proof's text may not fit them, an example may not refuse them.
+
+And the definitions of which no change fits the types, so that they have no mutant."""
 
 ORDER_OF_LINES = "the list is only asked whether it has a line"
 APART = "no number passes both tests, so their order does not matter"
@@ -55,4 +57,9 @@ REASONS = {
         "`when eqb (` → `when leb (`": NOT_ABOVE,
         "`(item boundedWord (boundAt is k) ++ item roundsWord (roundsAt is k)) when eqb (verdictAt is k) 0` ↔ `(lateWord ++ item roundsWord (roundsAt is k)) when eqb (verdictAt is k) 1`": APART,
     },
+}
+
+NO_MUTANT = {
+    "plan_table Table.width", "plan_table Table.lowestOf", "plan_table Table.highestOf", "plan_table Table.refusalAbove", "plan Reading.planOf", "plan Reading.accepted",
+    "recurrence Columns.heldTerms", "recurrence Limits.AllFair", "model Interference.those",
 }
