@@ -8,7 +8,7 @@ use mathlib.Core.List.{List}
 use borrow.Author.Tests.{eq-eqb, ne-eqb}
 use lib.ListN.{length}
 use Rattle.framing.specs.First.{_when_else_}
-use Rattle.framing.specs.Returned.{acceptedWith, roomFor, putInto}
+use Rattle.framing.specs.Returned.{acceptedWith, roomFor, putInto, valueBy}
 use Rattle.plan_values.specs.declared.Platform.{Platform}
 use Rattle.plan_values.specs.declared.Flow.{Flow}
 use Rattle.plan.specs.declared.Reading.{Reading}
@@ -26,7 +26,7 @@ use Rattle.analyser.specs.Analysed as analysed
 use Rattle.analyser.proofs.HouseDefault.{replied-by}
 use Rattle.converter.specs.Converted.{converted, returned, approvedMethod}
 use Rattle.converter.proofs.Converting.{Convert, refused-kept}
-use Rattle.converter.proofs.Conversions.{zero-left, other-left}
+use Rattle.converter.proofs.Conversions.{converts-zero, keeps-other}
 
 approved-zero : (p : Platform) → p .method ≡ 0 → approvedMethod p ≡ XLWX
 unfolding approvedMethod _when_else_
@@ -52,8 +52,8 @@ module _ (s : List ℕ) (p : Platform) (fs : List Flow) (e : readPlan s ≡ acce
   asks-approved = go (ℕ-discrete (p .method) 0)
     where
       go : Dec (p .method ≡ 0) → readPlan (converted s) ≡ accepted (asking (approvedMethod p) p) fs
-      go (yes z) = rw (← zero-left s p fs e z .1, approved-zero p z) (method-there s 2 p fs (omega arith) e)
-      go (no n) = rw (← other-left s p fs e n .1, approved-other p n, number-used p n (legal s p fs e .platform .method .1)) e
+      go (yes z) = rw (← converts-zero s p fs e z .1, approved-zero p z) (method-there s 2 p fs (omega arith) e)
+      go (no n) = rw (← keeps-other s p fs e n .1, approved-other p n, number-used p n (legal s p fs e .platform .method .1)) e
 
   -- .. so that the reply is, byte for byte, that of the answers by the method that the plan was approved with.
   pub approved-figures :
@@ -66,9 +66,13 @@ module _ (s : List ℕ) (p : Platform) (fs : List Flow) (e : readPlan s ≡ acce
   pub figures-of-zero : p .method ≡ 0 → (held : List ℕ) → analysed.left (converted s) held ≡ putInto (16 * length fs + 3) (replyBytes (answersBy XLWX p fs)) held
   figures-of-zero z held = rw (approved-zero p z) at (approved-figures held .1)
 
+  accepted-with-0 : returned s ≡ acceptedWith 0
+  unfolding accepted valueBy
+  accepted-with-0 = rw e
+
   -- What was converted is accepted again, and kept.
   kept-again : Convert (converted s) (acceptedWith 0) (converted s)
-  kept-again = other-left (converted s) (asking (approvedMethod p) p) fs asks-approved (names-one (approvedMethod p))
+  kept-again = keeps-other (converted s) (asking (approvedMethod p) p) fs asks-approved (names-one (approvedMethod p))
 
 -- Converting again changes nothing, and returns the same; of bytes that are refused too.
 module _ (s : List ℕ) where
@@ -76,14 +80,10 @@ module _ (s : List ℕ) where
   unfolding refused
   again = go (readPlan s) refl (answered s)
     where
-      accepted-with-0 : (p : Platform) (fs : List Flow) → readPlan s ≡ accepted p fs → Dec (p .method ≡ 0) → acceptedWith 0 ≡ returned s
-      accepted-with-0 p fs e (yes z) = zero-left s p fs e z .0
-      accepted-with-0 p fs e (no n) = other-left s p fs e n .0
-
       go : (r : Reading) → readPlan s ≡ r → Lawful s r → (returned (converted s) ≡ returned s) × (converted (converted s) ≡ converted s)
       go r e (accepts p fs laid w) =
           let (a, b) = kept-again s p fs e in
-          (sym a ∙ accepted-with-0 p fs e (ℕ-discrete (p .method) 0), sym b)
+          (sym a ∙ sym (accepted-with-0 s p fs e), sym b)
       go r e (refuses number place n h) =
           let b : s ≡ converted s = refused-kept s refl (ap (λ (x : Reading). x .outcome) e) .1 in
           (ap returned (sym b), ap converted (sym b))

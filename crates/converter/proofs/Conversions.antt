@@ -63,11 +63,11 @@ module _ (s : List ℕ) where
     inside : 8 < length s
     inside = method-inside s refl is-accepted
 
-    pub zero-left : p .method ≡ 0 → Convert s (acceptedWith 0) (set s 8 2)
-    zero-left z = zero-rewritten s refl is-accepted (method-is ∙ z)
+    pub converts-zero : p .method ≡ 0 → Convert s (acceptedWith 0) (set s 8 2)
+    converts-zero z = zero-rewritten s refl is-accepted (method-is ∙ z)
 
-    pub other-left : p .method ≢ 0 → Convert s (acceptedWith 0) s
-    other-left n = other-kept s refl is-accepted (λ z. n (sym method-is ∙ z))
+    pub keeps-other : p .method ≢ 0 → Convert s (acceptedWith 0) s
+    keeps-other n = other-kept s refl is-accepted (λ z. n (sym method-is ∙ z))
 
   settled : {r : Returned} {t : List ℕ} → Convert s r t → Conversion s r t → Conversion s (returned s) (converted s)
   settled (e, f) c = rw (← e, ← f) c
@@ -77,8 +77,8 @@ module _ (s : List ℕ) where
   comes-to = go (readPlan s) refl (answered s)
     where
       by-method : (p : Platform) (fs : List Flow) → Laid s p fs → Legal p fs → readPlan s ≡ accepted p fs → Dec (p .method ≡ 0) → Conversion s (returned s) (converted s)
-      by-method p fs laid legal e (yes z) = settled (zero-left p fs e z) (rewrites p fs laid legal z (rewritten-so s (inside p fs e)))
-      by-method p fs laid legal e (no n) = settled (other-left p fs e n) (keeps p fs laid legal n)
+      by-method p fs laid legal e (yes z) = settled (converts-zero p fs e z) (rewrites p fs laid legal z (rewritten-so s (inside p fs e)))
+      by-method p fs laid legal e (no n) = settled (keeps-other p fs e n) (keeps p fs laid legal n)
 
       go : (r : Reading) → readPlan s ≡ r → Lawful s r → Conversion s (returned s) (converted s)
       go r e (accepts p fs laid legal) = by-method p fs laid legal e (ℕ-discrete (p .method) 0)
@@ -93,8 +93,8 @@ module _ (s : List ℕ) where
       go : {r : Returned} {t : List ℕ} → Conversion s r t → Convert s r t
       go (rewrites p fs laid legal z w) =
           let e = accepted-exactly s p fs .1 (laid, legal) in
-          rw (rewritten-once s _ (inside p fs e) w) (zero-left p fs e z)
-      go (keeps p fs laid legal n) = other-left p fs (accepted-exactly s p fs .1 (laid, legal)) n
+          rw (rewritten-once s _ (inside p fs e) w) (converts-zero p fs e z)
+      go (keeps p fs laid legal n) = keeps-other p fs (accepted-exactly s p fs .1 (laid, legal)) n
       go (sends-back number place w) = refused-kept s refl (ap (λ (x : Reading). x .outcome) (refused-exactly s number place .1 w))
 
   -- "two results allowed for one input coincide"

@@ -5,7 +5,7 @@ use mathlib.Core.List.{List, _++_}
 use borrow.Author.Tests.{lt-ltb, le-ltb}
 use lib.ListN.{length, drop}
 use Rattle.framing.specs.First.{_when_else_}
-use Rattle.framing.specs.Returned.{refusedWith, acceptedWith, roomFor, putInto, returnedBy, leftBy}
+use Rattle.framing.specs.Returned.{refusedWith, acceptedWith, roomFor, putInto, returnedBy, leftBy, valueBy}
 use Rattle.framing.specs.declared.returned.Outcome.{Outcome}
 use Rattle.framing.specs.declared.returned.Outcome.the-variants.{Accepted, Refused}
 use Rattle.framing.specs.declared.returned.Returned.{Returned}
@@ -27,3 +27,8 @@ module _ (needed : ℕ) (bytes held : List ℕ) {o : Outcome} where
     pub room-enough : needed ≤ length held → Left o needed bytes held (acceptedWith needed) (bytes ++ drop needed held)
     unfolding returnedBy leftBy roomFor putInto _when_else_
     room-enough h = rw (e, le-ltb (length held) needed h) (refl, refl)
+
+-- A call without a reply, of given numbers: no two are equal, so that each has its place.
+values : (valueBy (Refused 7 9) 5 ≡ refusedWith 7 9) × (valueBy Accepted 5 ≡ acceptedWith 5)
+unfolding valueBy
+values = (refl, refl)

@@ -27,6 +27,7 @@ bytes : map (λ (told : ℕ). sizeOf (fieldsOf PlatformRecord told)) (6 ∷ 7 �
 unfolding sixOrSeven _when_else_
 bytes = refl
 
+-- .. each with its own bytes.
 widths : (map width (fieldsOf PlatformRecord 7) ≡ replicate 7 One) × (map width (fieldsOf FlowRecord 20) ≡ Two ∷ Two ∷ One ∷ One ∷ Two ∷ Four ∷ Four ∷ Four ∷ [])
 unfolding sixOrSeven _when_else_
 widths = (refl, refl)
