@@ -1,4 +1,6 @@
 // From any bytes to a reply: the entry points.
+#![tactic(auto)]
+
 ghost use Rattle.std.specs.Prelude.{◌≡◌, length};
 ghost use Rattle.analyser.specs.Analysed.{returned, left};
 

@@ -1,4 +1,6 @@
 // Reads at most 2,048 bytes of standard input, which always decides the text, and prints it.
+#![tactic(auto)]
+
 use libc::{STDIN_FILENO, STDOUT_FILENO};
 
 fn main() {

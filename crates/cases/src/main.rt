@@ -1,5 +1,7 @@
 // Reads the plans of data/plans one after the other and prints a line for each: the outcome's number and place, what an
 // accepted plan holds, and the answers to its flows. A plan stands there behind its length in two bytes.
+#![tactic(auto)]
+
 use engine::analyse_plan;
 use framing::returned::Outcome;
 use framing_numbers::two_at;

@@ -1,4 +1,6 @@
 // The house default has moved from XLWX to IBN: a stored plan that asks for the default is made to ask for XLWX by its number.
+#![tactic(auto)]
+
 ghost use Rattle.std.specs.Prelude.{◌≡◌};
 ghost use Rattle.converter.specs.Converted.{returned, converted};
 

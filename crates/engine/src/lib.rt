@@ -1,4 +1,6 @@
 // From a plan to its answers.
+#![tactic(auto)]
+
 ghost use Rattle.std.specs.Prelude.{◌≡◌, take};
 ghost use Rattle.pairs.specs.Pairs.{pair_table};
 ghost use Rattle.pairs.specs.Scene.{Scene};

@@ -1,4 +1,6 @@
 // A flow's row: the links it shares, its direct flows, the searches among them, and the hits on it.
+#![tactic(auto)]
+
 pub mod hits;
 pub mod rows;
 pub mod search;

@@ -13,7 +13,7 @@ use plan::Plan;
 pub type Priorities = [u16; 64];
 
 // The links shared with each flow, the first places, and the places in the plan of the direct flows, `many` of them.
-#[derive(Drop)]
+#[derive(Clone, Copy)]
 pub struct Row {
     pub shared: Bytes,
     pub firsts: Bytes,

@@ -1,4 +1,6 @@
 // A flow's recurrence, from the bounds of its direct flows.
+#![tactic(auto)]
+
 ghost use Rattle.std.specs.Prelude.{map, take};
 ghost use Rattle.recurrence.specs.Recurrence.{right_side};
 ghost use Rattle.recurrence.specs.Verdicts.{Allowed};

@@ -6,7 +6,7 @@ use engine_costs::figures::{COST, FigureTable};
 use engine_costs::numbers::{Bytes, Numbers, lesser, place};
 
 // The hits of the upstream flows at their latencies, and of the downstream flows at no more than the cap.
-#[derive(Drop)]
+#[derive(Clone, Copy)]
 pub struct Loads {
     pub up: u32,
     pub down: u32,

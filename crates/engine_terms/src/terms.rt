@@ -9,7 +9,7 @@ use model::Method;
 use plan_values::Platform;
 
 // A direct flow's term, as `recurrence::settle` takes it.
-#[derive(Drop)]
+#[derive(Clone, Copy)]
 pub struct Term {
     pub end: u32,
     pub last: u32,
@@ -17,7 +17,7 @@ pub struct Term {
 }
 
 // The method and what it takes from the platform.
-#[derive(Drop)]
+#[derive(Clone, Copy)]
 pub struct Way {
     pub method: Method,
     pub platform: Platform,

@@ -1,9 +1,11 @@
 // "Numbers are unsigned, most significant byte first."
+#![tactic(auto)]
+
 ghost use Rattle.std.specs.Prelude.{◌≡◌, ◌+◌, ◌≤◌, ◌<◌, length};
 ghost use Rattle.framing_numbers.specs.Numbers.{one_at, two_at, four_at, bytes_of, number_at};
 
 // How many bytes a number has.
-#[derive(Drop)]
+#[derive(Clone, Copy)]
 pub enum Width {
     One,
     Two,

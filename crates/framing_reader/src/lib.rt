@@ -1,5 +1,7 @@
 // "In the reader, the reading place travels together with the bytes being read."
 // A function that takes one takes it apart and calls a covered function on the slice and the place.
+#![tactic(auto)]
+
 ghost use Rattle.std.specs.Prelude.{◌≡◌, ◌+◌, ◌≤◌, length};
 ghost use Rattle.framing_numbers.specs.Numbers.{one_at, two_at, four_at};
 ghost use Rattle.framing_reader.specs.Reader.{reader_at, moved_past};
@@ -7,7 +9,7 @@ ghost use Rattle.framing_reader.specs.Reader.{reader_at, moved_past};
 use framing_numbers::{four_at, one_at, two_at};
 
 // The plan's bytes and the reading place in them.
-#[derive(Drop)]
+#[derive(Clone, Copy)]
 pub struct Reader<'a> {
     pub plan: &'a [u8],
     pub at: usize,

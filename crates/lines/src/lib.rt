@@ -1,4 +1,6 @@
 // The text that `bounds` prints (document 01, "The program `bounds`").
+#![tactic(auto)]
+
 ghost use Rattle.std.specs.Prelude.{◌≡◌, ◌+◌, ◌*◌, ◌≤◌, length};
 ghost use Rattle.io.specs.Counts.{IsPrefixLen};
 ghost use Rattle.lines.specs.Lines.{text_of, handed};
@@ -12,7 +14,7 @@ use plan_values::platform_at;
 use reply::answer_at;
 
 // The text's bytes are the first `length`; zeros stand behind them. There is room for 64 flows.
-#[derive(Drop)]
+#[derive(Clone, Copy)]
 pub struct Text {
     pub bytes: [u8; 3200],
     pub length: usize,

@@ -1,4 +1,6 @@
 // A flow's line and a refusal's.
+#![tactic(auto)]
+
 ghost use Rattle.std.specs.Prelude.{◌+◌, ◌≤◌, length};
 ghost use Rattle.lines_items.specs.Written.{Written};
 ghost use Rattle.lines_flow.specs.Flows.{told, flow_line, refusal_line};

@@ -1,4 +1,6 @@
 // What the lines are made of: "Numbers are decimal", alone or behind a fixed word.
+#![tactic(auto)]
+
 ghost use Rattle.std.specs.Prelude.{◌+◌, ◌≤◌, ◌++◌, length};
 ghost use Rattle.lines_items.specs.Decimal.{decimal};
 ghost use Rattle.lines_items.specs.Items.{item};

@@ -1,4 +1,6 @@
 // The mesh's line: "columns by rows, link cycles, routing cycles, buffer flits, the method really used".
+#![tactic(auto)]
+
 ghost use Rattle.std.specs.Prelude.{◌≡◌, ◌+◌, ◌≤◌, length};
 ghost use Rattle.model.specs.Latency.{method_used, method_number};
 ghost use Rattle.lines_items.specs.Written.{Written};

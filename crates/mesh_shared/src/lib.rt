@@ -1,4 +1,6 @@
 // The links that two routes share, from the rows and columns of their ends: no route is listed.
+#![tactic(auto)]
+
 ghost use Rattle.mesh.specs.Shared.{Shares};
 ghost use Rattle.mesh.specs.Halves.{OnMesh, to_turn, from_turn, between};
 

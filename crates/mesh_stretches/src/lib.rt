@@ -1,4 +1,6 @@
 // What two routes share of one stretch of their links, and of two stretches, one behind the other.
+#![tactic(auto)]
+
 ghost use Rattle.std.specs.Prelude.{◌≡◌, ◌+◌, ◌-◌, ◌<◌, ◌≤◌, min, max};
 ghost use Rattle.mesh.specs.Mesh.{distance as apart};
 ghost use Rattle.mesh_stretches.specs.Stretches.{Stretched, HopsShared, LinkShared, Joined};

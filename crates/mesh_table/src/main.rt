@@ -1,4 +1,6 @@
 // Prints, for some small meshes, a digest of the shared links of every ordered pair of routes.
+#![tactic(auto)]
+
 ghost use Rattle.std.specs.Prelude.{◌≡◌, ◌<◌, ◌≤◌};
 ghost use Rattle.mesh.specs.Mesh.{Ends};
 ghost use Rattle.mesh_table.specs.Turns.{Inside, turn};
@@ -6,7 +8,7 @@ ghost use Rattle.mesh_table.specs.Turns.{Inside, turn};
 use mesh::Pair;
 
 // The ends of two flows.
-#[derive(Drop)]
+#[derive(Clone, Copy)]
 struct Flows {
     source: u8,
     destination: u8,
@@ -15,7 +17,7 @@ struct Flows {
 }
 
 // How many pairs there are, the sums of their counts and of their first places, and a number that depends on each in its turn.
-#[derive(Drop)]
+#[derive(Clone, Copy)]
 struct Digest {
     pairs: u64,
     counts: u64,

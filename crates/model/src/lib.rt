@@ -2,7 +2,9 @@
 // computes it.
 
 // "Method 1 is SB, 2 is XLWX, 3 is IBN"
-#[derive(Drop)]
+#![tactic(auto)]
+
+#[derive(Clone, Copy)]
 pub enum Method {
     SB,
     XLWX,
@@ -10,7 +12,7 @@ pub enum Method {
 }
 
 // "Each flow's line in the answer holds one of three verdicts": the bound and the rounds, the rounds, or the id of the flow waited on.
-#[derive(Drop)]
+#[derive(Clone, Copy)]
 pub enum Verdict {
     Bounded(u32, u32),
     Late(u32),
@@ -18,7 +20,7 @@ pub enum Verdict {
 }
 
 // One flow's line in the answer.
-#[derive(Drop)]
+#[derive(Clone, Copy)]
 pub struct Answer {
     pub id: u16,
     pub verdict: Verdict,

@@ -1,4 +1,6 @@
 // The pair table: for every ordered pair of flows the count of shared links and the place of the first.
+#![tactic(auto)]
+
 ghost use Rattle.std.specs.Prelude.{◌≡◌, map, take};
 ghost use Rattle.plan.specs.Padded.{padded};
 ghost use Rattle.pairs.specs.Scene.{Scene};

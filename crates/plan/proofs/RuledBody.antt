@@ -132,8 +132,8 @@ module _ (s : List ℕ) (n : ℕ) where
       unfolding fields_from ◌then◌
       without d = six_lines [] (passes priority_flits_outside (λ h. d h.1) behind)
 
-      platform_lines : Ruled s n (whole (fields 3 (fields_of PlatformRecord (length_at s (start s n))))) platform_lines
-      platform_lines = go (ℕ_discrete (length_at s (start s n)) 7)
+      of_platform_lines : Ruled s n (whole (fields 3 (fields_of PlatformRecord (length_at s (start s n))))) platform_lines
+      of_platform_lines = go (ℕ_discrete (length_at s (start s n)) 7)
         where
           go : Dec (length_at s (start s n) ≡ 7) → Ruled s n (whole (fields 3 (fields_of PlatformRecord (length_at s (start s n))))) platform_lines
           go (yes e) = subst (λ (k : ℕ). Ruled s n (whole (fields 3 (take k platform_fields))) platform_lines) (sym (seven e)) (with_seventh_lem e)
@@ -142,7 +142,7 @@ module _ (s : List ℕ) (n : ℕ) where
     -- ---- the fields, and what stands behind them
     pub body : (kind : Kind) → tag s n ≡ tag_byte kind → (kind ≡ FlowRecord → 0 < n) → Ruled s n (fields_from s (start s n) kind (limits_at s (start s n) kind p) 3 (fields_of kind (length_at s (start s n))) then rest_at s (start s n) kind (ids_of fs) (priorities_of fs)) platform_lines
     unfolding fields_from rest_at tail_at ◌then◌
-    body PlatformRecord e later = platform_lines e
+    body PlatformRecord e later = of_platform_lines e
     body FlowRecord e later =
         let whole : Checked → Checked = λ c. c then clash_at (start s n) (flow_at s (start s n)) (ids_of fs) (priorities_of fs) in
         let keeps : (number pl : ℕ) → whole (Fault number pl) ≡ Fault number pl = λ number pl. refl in

@@ -1,4 +1,6 @@
 // The plan reader: from any bytes to a plan by value, or the number and the place of a refusal.
+#![tactic(auto)]
+
 ghost use Rattle.std.specs.Prelude.{◌≡◌, ◌≤◌, take};
 ghost use Rattle.plan.specs.Reading.{accepted, refused, read_plan};
 ghost use Rattle.plan.specs.Padded.{padded};
@@ -13,7 +15,7 @@ use plan_values::{Flows, Platform, blank_flow, blank_platform, flow_at, platform
 
 // The flows are the first `count`; blanks, whose priority no flow has, stand behind them.
 #[repr(C)]
-#[derive(Drop)]
+#[derive(Clone, Copy)]
 pub struct Plan {
     pub platform: Platform,
     pub flows: Flows,
@@ -21,7 +23,7 @@ pub struct Plan {
 }
 
 // A refused reading holds a blank plan.
-#[derive(Drop)]
+#[derive(Clone, Copy)]
 pub struct Reading {
     pub outcome: Outcome,
     pub plan: Plan,

@@ -1,4 +1,6 @@
 // The checks of document 01, "What sends a plan back", in their order within a record.
+#![tactic(auto)]
+
 ghost use Rattle.std.specs.Prelude.{◌≡◌, ◌+◌, ◌^◌, ◌≤◌, ◌<◌, length};
 ghost use Rattle.framing.specs.Header.{length_at};
 ghost use Rattle.plan_table.specs.Table.{body_length, refusal_above, refusal_of};
@@ -10,14 +12,14 @@ use plan_table::{Field, Kind, Limit, Tag, body_length, tag_of};
 use plan_values::{Flow, Platform, flow_at};
 
 // What the limits of a record's fields depend on.
-#[derive(Drop)]
+#[derive(Clone, Copy)]
 pub struct Limits {
     pub nodes: u32,
     pub period: u32,
 }
 
 // What checks of a record say: the first fault's number and place, or what record passed them.
-#[derive(Drop)]
+#[derive(Clone, Copy)]
 pub enum Checked {
     Fault(u8, usize),
     Passed(Kind),

@@ -1,11 +1,13 @@
 // Document 01's table of records and their fields: a line here for a line there.
+#![tactic(auto)]
+
 ghost use Rattle.std.specs.Prelude.{◌≡◌, ◌<◌, length, get_or};
 ghost use Rattle.plan_table.specs.Table.{tag_of, six_or_seven, body_length, field_count, first_line, lines_of, lines, no_field};
 
 use framing_numbers::Width;
 
 // The records of a plan.
-#[derive(Drop)]
+#[derive(Clone, Copy)]
 pub enum Kind {
     PlatformRecord,
     FlowRecord,
@@ -13,7 +15,7 @@ pub enum Kind {
 }
 
 // What a tag says.
-#[derive(Drop)]
+#[derive(Clone, Copy)]
 pub enum Tag {
     Known(Kind),
     Unknown,
@@ -21,7 +23,7 @@ pub enum Tag {
 
 // The highest allowed value: a number, or one that depends on the platform or on the record.
 // A value above the period has a refusal of its own.
-#[derive(Drop)]
+#[derive(Clone, Copy)]
 pub enum Limit {
     UpTo(u32),
     BelowNodes,
@@ -29,7 +31,7 @@ pub enum Limit {
 }
 
 // Bytes, lowest value, highest value, and the refusal of a value outside them.
-#[derive(Drop)]
+#[derive(Clone, Copy)]
 pub struct Field(pub Width, pub u32, pub Limit, pub u8);
 
 pub fn tag_of(byte: u8) -> Tag

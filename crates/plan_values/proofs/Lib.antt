@@ -1,3 +1,2 @@
-mod Recording
 mod Examples
 pub mod Seventh

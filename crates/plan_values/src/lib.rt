@@ -1,4 +1,6 @@
 // The values that a plan's records hold, and what stands where none were read.
+#![tactic(auto)]
+
 ghost use Rattle.std.specs.Prelude.{◌≡◌, ◌+◌, ◌≤◌, length};
 ghost use Rattle.framing.specs.Header.{length_at};
 ghost use Rattle.plan_values.specs.Values.{six_at, priority_flits_at, platform_at, platform_length, flow_at, blank_platform, blank_flow};
@@ -8,7 +10,7 @@ use framing_numbers::one_at;
 use framing_reader::{four, one, past, reader_at, two};
 
 #[repr(C)]
-#[derive(Drop)]
+#[derive(Clone, Copy)]
 pub struct Platform {
     pub columns: u8,
     pub rows: u8,
@@ -20,7 +22,7 @@ pub struct Platform {
 }
 
 #[repr(C)]
-#[derive(Drop)]
+#[derive(Clone, Copy)]
 pub struct Flow {
     pub id: u16,
     pub priority: u16,

@@ -1,4 +1,6 @@
 // One flow's recurrence, solved (document 01, "The three recurrences", "Verdicts and rounds").
+#![tactic(auto)]
+
 ghost use Rattle.std.specs.Prelude.{◌≡◌, ◌+◌, ◌-◌, ◌≤◌, ◌<◌};
 ghost use Rattle.recurrence.specs.Rounding.{up};
 ghost use Rattle.recurrence.specs.Recurrence.{delay, right_side};
@@ -7,7 +9,7 @@ ghost use Rattle.recurrence.specs.Limits.{Fair, Given};
 ghost use Rattle.recurrence.specs.Verdicts.{Allowed};
 
 // What comes of a recurrence: the bound and the rounds, or the rounds of a flow that is late.
-#[derive(Drop)]
+#[derive(Clone, Copy)]
 pub enum Settled {
     Bounded(u32, u32),
     Late(u32),

@@ -1,4 +1,6 @@
 // The reply's bytes (document 01, "The reply").
+#![tactic(auto)]
+
 ghost use Rattle.std.specs.Prelude.{◌≡◌, ◌++◌, ◌+◌, ◌*◌, ◌≤◌, length, take, drop};
 ghost use Rattle.reply.specs.Records.{answer_at};
 ghost use Rattle.reply.specs.Reply.{reply_bytes};

@@ -11,7 +11,7 @@ use model::{Answer, Verdict};
 const NO_FLOW: u16 = 0xFFFF;
 
 // The numbers of a verdict's case.
-#[derive(Drop)]
+#[derive(Clone, Copy)]
 struct Parts {
     number: u8,
     named: u16,

@@ -1,4 +1,6 @@
 // The plan writer for the depot tool: from a plan by value to its bytes in a lent buffer.
+#![tactic(auto)]
+
 ghost use Rattle.std.specs.Prelude.{◌≡◌, min, length};
 ghost use Rattle.writer.specs.Written.{listed, returned, left, GivenBack};
 

@@ -1,4 +1,6 @@
 // A plan's bytes, written into a lent buffer.
+#![tactic(auto)]
+
 ghost use Rattle.std.specs.Prelude.{◌≡◌, ◌++◌, ◌≤◌, length, take, drop};
 ghost use Rattle.writer_bytes.specs.PlanBytes.{plan_bytes, plan_length};
 

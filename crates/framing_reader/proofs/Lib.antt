@@ -1,4 +1,0 @@
-pub mod Held
-pub mod Leaving
-pub mod Taking
-pub mod Travels
