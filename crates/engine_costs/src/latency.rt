@@ -27,8 +27,8 @@ fn flits_sent(p: Platform, f: Flow) -> u32
 
 // From the route's length, which is what a flow shares with itself.
 pub fn latency(p: Platform, f: Flow, links: u8) -> u32
-    requires legal_platform { LegalPlatform p × LegalFlow p f }
-    requires links_value { links ≡ length (route_of p f) }
+    requires legal { LegalPlatform p × LegalFlow p f }
+    requires links_of_route { links ≡ length (route_of p f) }
     ensures { result ≡ latency_of p f }
 {
     let hops = wide8(links) - 1;

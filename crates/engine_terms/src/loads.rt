@@ -44,8 +44,8 @@ pub fn sum_loads(
     first: u8,
     cap: u32,
 ) -> Loads
-    requires seen_bound { (seen ≤ 64) × ((m : ℕ) → m < seen → get_or direct.now m 0 < 64) }
-    requires m_bound { (sum_to seen (λ m. up_load shared.now places.now hit.now figures.now first (get_or direct.now m 0)) ≤ 1_000_000_000) × (sum_to seen (λ m. down_load shared.now places.now hit.now figures.now first cap (get_or direct.now m 0)) ≤ 1_000_000_000) }
+    requires below_64 { (seen ≤ 64) × ((m : ℕ) → m < seen → get_or direct.now m 0 < 64) }
+    requires sums { (sum_to seen (λ m. up_load shared.now places.now hit.now figures.now first (get_or direct.now m 0)) ≤ 1_000_000_000) × (sum_to seen (λ m. down_load shared.now places.now hit.now figures.now first cap (get_or direct.now m 0)) ≤ 1_000_000_000) }
     ensures { (result.up ≡ sum_to seen (λ m. up_load shared.now places.now hit.now figures.now first (get_or direct.now m 0))) × (result.down ≡ sum_to seen (λ m. down_load shared.now places.now hit.now figures.now first cap (get_or direct.now m 0))) }
 {
     let mut l = Loads { up: 0, down: 0 };

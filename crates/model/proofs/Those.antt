@@ -74,18 +74,18 @@ module _ (g f : Flow) where
 module _ (test : Flow → Bool) (f : Flow) (fs : List Flow) where
   -- A search that f begins: where the rest of it ends, it ends.
   step : (b : Bool) → test f ≡ b → (o r : Option Flow) → Came test fs (next b o f) r → Came test (f ∷ fs) o r
-  step false e o none (a, b) = (a, λ k. elim k [ zero ↦ λ l h. false≢true (sym e ∙ h) | suc k ↦ λ l h. b k (omega arith) h ])
+  step false e o none (a, b) = (a, λ k. elim k as (λ k. k < length (f ∷ fs) → test (flow (f ∷ fs) k) ≡ true → ⊥) [ zero ↦ λ l h. false≢true (sym e ∙ h) | suc k ↦ λ l h. b k (omega arith) h ])
   step false e o (some j) (a, b, c) = (
     ⊎_elim inl (λ (k, l, h, s). inr (suc k, omega arith, h, s)) a,
     b,
-    λ k. elim k [ zero ↦ λ l h. absurd (false≢true (sym e ∙ h)) | suc k ↦ λ l h. c k (omega arith) h ],
+    λ k. elim k as (λ k. k < length (f ∷ fs) → test (flow (f ∷ fs) k) ≡ true → j.priority ≤ (flow (f ∷ fs) k).priority) [ zero ↦ λ l h. absurd (false≢true (sym e ∙ h)) | suc k ↦ λ l h. c k (omega arith) h ],
   )
   step true e none none (a, b) = let z : ◌≡◌ {A = ℕ} 0 1 = cc in absurd (omega arith)
   step true e (some g) none (a, b) = let z : ◌≡◌ {A = ℕ} 0 1 = cc in absurd (omega arith)
   step true e none (some j) (a, b, c) = (
     ⊎_elim (λ s. inr (0, omega arith, e, (cc))) (λ (k, l, h, s). inr (suc k, omega arith, h, s)) a,
     (λ g s. let z : ◌≡◌ {A = ℕ} 0 1 = cc in absurd (omega arith)),
-    λ k. elim k [ zero ↦ λ l h. b f refl | suc k ↦ λ l h. c k (omega arith) h ],
+    λ k. elim k as (λ k. k < length (f ∷ fs) → test (flow (f ∷ fs) k) ≡ true → j.priority ≤ (flow (f ∷ fs) k).priority) [ zero ↦ λ l h. b f refl | suc k ↦ λ l h. c k (omega arith) h ],
   )
   step true e (some g) (some j) (a, b, c) =
       let low = b (higher g f) refl in (
@@ -94,7 +94,7 @@ module _ (test : Flow → Bool) (f : Flow) (fs : List Flow) where
             (λ (k, l, h, s). inr (suc k, omega arith, h, s))
             a,
         (λ g' s. let t : g ≡ g' = cc in rw (← t) (omega (arith, low, higher_below g f))),
-        λ k. elim k [ zero ↦ λ l h. omega (arith, low, higher_below g f) | suc k ↦ λ l h. c k (omega arith) h ],
+        λ k. elim k as (λ k. k < length (f ∷ fs) → test (flow (f ∷ fs) k) ≡ true → j.priority ≤ (flow (f ∷ fs) k).priority) [ zero ↦ λ l h. omega (arith, low, higher_below g f) | suc k ↦ λ l h. c k (omega arith) h ],
       )
 
   pub highest_next : (b : Bool) (o : Option Flow) → highest o (keep b f (those test fs)) ≡ highest (next b o f) (those test fs)
