@@ -2,12 +2,12 @@
 use Prim.Native.Nat.{◌-◌}
 use native.Mathlib.Omega.{arith}
 use mathlib.Core.Path.{ap, ◌∙◌}
-use mathlib.Core.Logic.{⊎_elim}
 use lib.ListN.{replicate}
 use lib.Dec.{lit≤}
 use Rattle.engine.proofs.Turns.{here, waits_read, free, solvable, solved}
 use Rattle.engine.proofs.Answering.{under, offset_fits, answering_none, sooner, latency_asked, turned, direct_low, hits_asked, figures_fit, answering_more, answering_all}
 use borrow.Author.Rules.{rules}
+use Rattle.engine.proofs.analyse_table.Goals.{then-w-lt64, else-w-lt64}
 use Rattle.engine.proofs.analyse_table.Goals as goal
 
 pub priorities_of-priorities-requires : goal.priorities_of-priorities-requires
@@ -41,7 +41,9 @@ pub bounds-shared-i : goal.bounds-shared-i
 bounds-shared-i c = under c.next_flow-i.ensures.0 c.if-i-eq64.false
 
 pub latency-c-requires : goal.latency-c-requires
-latency-c-requires c = latency_asked c.loop-plan.invariant c.next_flow-i.ensures c.if-i-eq64.false _ c.row_of-row.ensures
+latency-c-requires c =
+    let a = latency_asked c.loop-plan.invariant c.next_flow-i.ensures c.if-i-eq64.false _ c.row_of-row.ensures in
+    record { legal = a.0; links_of_route = a.1 }
 
 pub waits_on-w-requires : goal.waits_on-w-requires
 waits_on-w-requires c = direct_low c.loop-plan.invariant c.next_flow-i.ensures c.if-i-eq64.false _ c.row_of-row.ensures
@@ -78,11 +80,10 @@ pub hit_row-requires : goal.hit_row-requires
 hit_row-requires c =
     let t = turned c.loop-plan.invariant c.next_flow-i.ensures c.if-i-eq64.false _ c.row_of-row.ensures in
     let s = c.waits_on-w.ensures.1 in
-    let v = ⊎_elim
-    (λ a. a.3 ∙ waits_read t s a.0.taken a.1.ensures.0)
-    (λ b. solved t (free t s b.0.left) c.way_of-way.ensures c.latency-c.ensures b.1.ensures b.6.ensures (b.8 ∙ b.7.ensures))
-    c.if-w-lt64.branch in
-    hits_asked c.loop-plan.invariant c.next_flow-i.ensures c.if-i-eq64.false _ c.row_of-row.ensures v c.bound_of-bound.ensures c.looked_at-seen.ensures.1
+    hits_asked c.loop-plan.invariant c.next_flow-i.ensures c.if-i-eq64.false _ c.row_of-row.ensures (elim c.if-w-lt64.branch
+        [ then-w-lt64 w ↦ w.verdict-is ∙ waits_read t s w.if-w-lt64.true w.place.ensures.0
+        | else-w-lt64 w ↦ solved t (free t s w.if-w-lt64.false) c.way_of-way.ensures c.latency-c.ensures w.limit.ensures w.solve-s.ensures (w.verdict-is ∙ w.verdict_of.ensures)
+        ]) c.bound_of-bound.ensures c.looked_at-seen.ensures.1
 
 pub offset_bounds-hits-i : goal.offset_bounds-hits-i
 offset_bounds-hits-i c = offset_fits c.next_flow-i.ensures.0 _ (lit≤ tt)
@@ -106,8 +107,7 @@ pub loop-plan-preserved : goal.loop-plan-preserved
 loop-plan-preserved c =
     let t = turned c.loop-plan.invariant c.next_flow-i.ensures c.if-i-eq64.false _ c.row_of-row.ensures in
     let s = c.waits_on-w.ensures.1 in
-    let v = ⊎_elim
-    (λ a. a.3 ∙ waits_read t s a.0.taken a.1.ensures.0)
-    (λ b. solved t (free t s b.0.left) c.way_of-way.ensures c.latency-c.ensures b.1.ensures b.6.ensures (b.8 ∙ b.7.ensures))
-    c.if-w-lt64.branch in
-    answering_more c.loop-plan.invariant c.next_flow-i.ensures c.if-i-eq64.false _ c.row_of-row.ensures v c.bound_of-bound.ensures c.way_of-way.ensures c.looked_at-seen.ensures.0 c.latency-c.ensures c.hit_row.ensures c.figures_of.ensures
+    answering_more c.loop-plan.invariant c.next_flow-i.ensures c.if-i-eq64.false _ c.row_of-row.ensures (elim c.if-w-lt64.branch
+        [ then-w-lt64 w ↦ w.verdict-is ∙ waits_read t s w.if-w-lt64.true w.place.ensures.0
+        | else-w-lt64 w ↦ solved t (free t s w.if-w-lt64.false) c.way_of-way.ensures c.latency-c.ensures w.limit.ensures w.solve-s.ensures (w.verdict-is ∙ w.verdict_of.ensures)
+        ]) c.bound_of-bound.ensures c.way_of-way.ensures c.looked_at-seen.ensures.0 c.latency-c.ensures c.hit_row.ensures c.figures_of.ensures
