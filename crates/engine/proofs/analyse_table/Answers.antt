@@ -82,7 +82,7 @@ hit_row-requires c =
     let s = c.waits_on-w.ensures.1 in
     hits_asked c.loop-plan.invariant c.next_flow-i.ensures c.if-i-eq64.false _ c.row_of-row.ensures (elim c.if-w-lt64.branch
         [ then-w-lt64 w ↦ w.verdict-is ∙ waits_read t s w.if-w-lt64.true w.place.ensures.0
-        | else-w-lt64 w ↦ solved t (free t s w.if-w-lt64.false) c.way_of-way.ensures c.latency-c.ensures w.limit.ensures w.solve-s.ensures (w.verdict-is ∙ w.verdict_of.ensures)
+        | else-w-lt64 w ↦ solved t (free t s w.if-w-lt64.false) c.way_of-way.ensures c.latency-c.ensures w.limit.ensures w.solve-s.ensures (w.verdict-is ∙ w.verdict_of-verdict.ensures)
         ]) c.bound_of-bound.ensures c.looked_at-seen.ensures.1
 
 pub offset_bounds-hits-i : goal.offset_bounds-hits-i
@@ -109,5 +109,5 @@ loop-plan-preserved c =
     let s = c.waits_on-w.ensures.1 in
     answering_more c.loop-plan.invariant c.next_flow-i.ensures c.if-i-eq64.false _ c.row_of-row.ensures (elim c.if-w-lt64.branch
         [ then-w-lt64 w ↦ w.verdict-is ∙ waits_read t s w.if-w-lt64.true w.place.ensures.0
-        | else-w-lt64 w ↦ solved t (free t s w.if-w-lt64.false) c.way_of-way.ensures c.latency-c.ensures w.limit.ensures w.solve-s.ensures (w.verdict-is ∙ w.verdict_of.ensures)
+        | else-w-lt64 w ↦ solved t (free t s w.if-w-lt64.false) c.way_of-way.ensures c.latency-c.ensures w.limit.ensures w.solve-s.ensures (w.verdict-is ∙ w.verdict_of-verdict.ensures)
         ]) c.bound_of-bound.ensures c.way_of-way.ensures c.looked_at-seen.ensures.0 c.latency-c.ensures c.hit_row.ensures c.figures_of.ensures
