@@ -36,11 +36,3 @@ pub fn analyse(bytes: &[u8], reply: &mut [u8]) -> Returned
         value: size,
     }
 }
-
-// The same for C: each slice is passed as a pointer and a length.
-#[unsafe(no_mangle)]
-pub extern "C" fn lingfallow_analyse(bytes: &[u8], reply: &mut [u8]) -> Returned
-    ensures { (result ≡ returned bytes.now (length reply.old)) × (reply.new ≡ left bytes.now reply.old) }
-{
-    analyse(bytes, reply)
-}

@@ -30,11 +30,3 @@ pub fn convert(plan: &mut [u8]) -> Returned
         value: 0,
     }
 }
-
-// The same for C: the plan is passed as a pointer and a length.
-#[unsafe(no_mangle)]
-pub extern "C" fn lingfallow_convert(plan: &mut [u8]) -> Returned
-    ensures { (result ≡ returned plan.old) × (plan.new ≡ converted plan.old) }
-{
-    convert(plan)
-}

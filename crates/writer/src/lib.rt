@@ -5,7 +5,7 @@ ghost use Rattle.std.specs.Prelude.{◌≡◌, min, length};
 ghost use Rattle.writer.specs.Written.{listed, returned, left, GivenBack};
 
 use framing::returned::{Outcome, Returned};
-use plan::{Plan, read};
+use plan::read;
 use plan_values::{Flows, Platform};
 use writer_bytes::{plan_length, put_plan};
 
@@ -52,15 +52,4 @@ pub fn write(platform: Platform, flows: Flows, count: usize, buffer: &mut [u8]) 
         number: 0,
         value: size,
     }
-}
-
-// The same for C: the plan is passed by value, the buffer as a pointer and a length.
-#[unsafe(no_mangle)]
-pub extern "C" fn lingfallow_write(plan: Plan, buffer: &mut [u8]) -> Returned
-    ensures { (result ≡ returned plan.platform (listed plan.flows plan.count) (length buffer.old)) × (buffer.new ≡ left plan.platform (listed plan.flows plan.count) buffer.old) × GivenBack plan.platform (listed plan.flows plan.count) result buffer.new }
-{
-    let platform = plan.platform;
-    let flows = plan.flows;
-    let count = plan.count;
-    write(platform, flows, count, buffer)
 }
