@@ -1,8 +1,6 @@
 -- `plan::read` meets its contract: a line for each need, by the lemmas of Turns, Scan and Columns.
-use Prim.Native.Nat.{◌-◌}
 use native.Mathlib.Omega.{arith}
 use mathlib.Core.Path.{sym, ap, ◌∙◌}
-use mathlib.Core.Logic.{⊎_elim}
 use lib.ListN.{replicate}
 use Rattle.plan.proofs.Order.{framed, flow_room}
 use Rattle.plan.proofs.Columns.{column_taken}
@@ -106,7 +104,7 @@ records-smaller c = omega (arith, c.loop-k.invariant.scan.whole, scanned_place c
 
 pub records-preserved : goal.records-preserved
 records-preserved c =
-    elim c.match-kind.branch
-    [ in-PlatformRecord w ↦ rw (w.platform-is, w.flows-is, w.ids-is, w.priorities-is, w.count-is) (platform_taken c.loop-k.invariant c.loop-k-test.false c.check_rest-rest.ensures c.in_default.is w.in-PlatformRecord.is w.platform_at-platform.ensures)
-    | in-FlowRecord w ↦ rw (w.platform-is, w.flows-is, w.ids-is, w.priorities-is, w.count-is) (flow_taken c.loop-k.invariant c.loop-k-test.false c.check_rest-rest.ensures c.in_default.is w.in-FlowRecord.is w.flow_at-flow.ensures)
+    elim c.match-kind.branch [
+      | in-PlatformRecord w ↦ rw (w.platform-is, w.flows-is, w.ids-is, w.priorities-is, w.count-is) (platform_taken c.loop-k.invariant c.loop-k-test.false c.check_rest-rest.ensures c.in_default.is w.in-PlatformRecord.is w.platform_at-platform.ensures)
+      | in-FlowRecord w ↦ rw (w.platform-is, w.flows-is, w.ids-is, w.priorities-is, w.count-is) (flow_taken c.loop-k.invariant c.loop-k-test.false c.check_rest-rest.ensures c.in_default.is w.in-FlowRecord.is w.flow_at-flow.ensures)
     ]

@@ -1,5 +1,4 @@
 -- `plan_checks::is_taken` meets its contract.
-use Prim.Native.Nat.{◌-◌}
 use Rattle.plan_checks.proofs.Searches.{searched_none, searched_more, searched_all}
 use borrow.Author.Rules.{rules}
 use Rattle.plan_checks.proofs.is_taken.Goals as goal

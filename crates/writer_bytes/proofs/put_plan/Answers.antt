@@ -1,5 +1,5 @@
 -- `writer_bytes::put_plan` meets its contract.
-use Prim.Native.Nat.{ℕ, ◌-◌}
+use Prim.Native.Nat.{ℕ}
 use mathlib.Core.Path.{refl, ap, ◌∙◌}
 use lib.ListN.{take}
 use native.Mathlib.Omega.{arith}

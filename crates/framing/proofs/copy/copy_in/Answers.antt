@@ -1,5 +1,4 @@
 -- `framing::copy::copy_in` meets its contract.
-use Prim.Native.Nat.{◌-◌}
 use borrow.Author.Rules.{rules}
 use Rattle.framing.proofs.Copied.{copied_none, copied_more, copied_all}
 use Rattle.framing.proofs.copy.copy_in.Goals as goal
