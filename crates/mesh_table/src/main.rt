@@ -6,6 +6,7 @@ ghost use Rattle.mesh.specs.Mesh.{Ends};
 ghost use Rattle.mesh_table.specs.Turns.{Inside, turn};
 
 use mesh::Pair;
+use std::io;
 
 // The ends of two flows.
 #[derive(Clone, Copy)]
@@ -39,9 +40,9 @@ fn told(d: Digest, pair: Pair) -> Digest
     let count = wide(pair.count);
     let first = wide(pair.first);
     Digest {
-        pairs: std::num::wrapping_add_u64(d.pairs, 1),
-        counts: std::num::wrapping_add_u64(d.counts, count),
-        places: std::num::wrapping_add_u64(d.places, first),
+        pairs: d.pairs.wrapping_add(1),
+        counts: d.counts.wrapping_add(count),
+        places: d.places.wrapping_add(first),
         hash: (d.hash * 289 + count * 17 + first) % 4294967291,
     }
 }
@@ -49,9 +50,9 @@ fn told(d: Digest, pair: Pair) -> Digest
 // The next ends, the last one first.
 fn next(e: Flows, nodes: u8) -> Flows
     requires inside { Inside nodes e.source e.destination e.source2 e.destination2 }
-    requires source_lt_nodes { e.source < nodes }
-    ensures inside_2 { Inside nodes result.source result.destination result.source2 result.destination2 }
-    ensures destination2_bound { turn e.source e.destination e.source2 e.destination2 < turn result.source result.destination result.source2 result.destination2 }
+    requires more { e.source < nodes }
+    ensures inside { Inside nodes result.source result.destination result.source2 result.destination2 }
+    ensures rises { turn e.source e.destination e.source2 e.destination2 < turn result.source result.destination result.source2 result.destination2 }
 {
     if e.destination2 + 1 < nodes {
         return Flows {
@@ -87,9 +88,9 @@ fn next(e: Flows, nodes: u8) -> Flows
 
 // The digest with the pair of the routes between these ends, if a flow can have them.
 fn compared(columns: u8, e: Flows, d: Digest) -> Digest
-    requires ends { Ends columns e.source e.destination }
-    requires ends_2 { Ends columns e.source2 e.destination2 }
-    requires hash_bound { d.hash < 4294967291 }
+    requires first_ends { Ends columns e.source e.destination }
+    requires second_ends { Ends columns e.source2 e.destination2 }
+    requires hash_small { d.hash < 4294967291 }
     ensures { result.hash < 4294967291 }
 {
     if e.source == e.destination {
@@ -128,27 +129,19 @@ fn table(columns: u8, rows: u8) -> Digest
 }
 
 // Prints the digest of a mesh.
-fn print(columns: u8, rows: u8)
+fn print(rt: &impl Print, columns: u8, rows: u8) -> io::Result<()>
     requires { (1 ≤ columns) × (columns ≤ 8) × (1 ≤ rows) × (rows ≤ 8) }
 {
     let d = table(columns, rows);
-    io::print_decimal(1, wide(columns));
-    io::write_all(1, b" by ");
-    io::print_decimal(1, wide(rows));
-    io::write_all(1, b" pairs ");
-    io::print_decimal(1, d.pairs);
-    io::write_all(1, b" counts ");
-    io::print_decimal(1, d.counts);
-    io::write_all(1, b" places ");
-    io::print_decimal(1, d.places);
-    io::write_all(1, b" hash ");
-    io::print_decimal(1, d.hash);
-    io::write_all(1, b"\n");
+    println!(rt;
+        "{columns} by {rows} pairs {} counts {} places {} hash {}",
+        d.pairs, d.counts, d.places, d.hash
+    )
 }
 
-fn main() {
-    print(3, 4);
-    print(6, 1);
-    print(1, 6);
-    print(2, 2);
+fn main(rt: HostRuntime) -> io::Result<()> {
+    print(&rt, 3, 4)?;
+    print(&rt, 6, 1)?;
+    print(&rt, 1, 6)?;
+    print(&rt, 2, 2)
 }
