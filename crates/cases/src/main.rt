@@ -5,152 +5,169 @@
 use engine::analyse_plan;
 use framing::returned::Outcome;
 use framing_numbers::two_at;
-use libc::STDOUT_FILENO;
 use model::{Answer, Answers, Verdict};
 use plan::Plan;
 use plan_values::{Flow, Flows, Platform};
+use std::fs::File;
+use std::io::{self, BufReader, BufWriter, ErrorKind, Read, Write};
 
-fn put(n: u64) {
-    io::print_decimal(STDOUT_FILENO, n);
-    io::write_all(STDOUT_FILENO, b" ");
+fn put<W: Write>(out: &mut W, n: u64) -> io::Result<()> {
+    write!(out, "{n} ")
 }
 
-fn put_platform(p: Platform) {
-    put(p.columns as u64);
-    put(p.rows as u64);
-    put(p.link as u64);
-    put(p.routing as u64);
-    put(p.buffer as u64);
-    put(p.method as u64);
-    put(p.priority_flits as u64);
+fn put_platform<W: Write>(out: &mut W, p: Platform) -> io::Result<()> {
+    put(out, p.columns as u64)?;
+    put(out, p.rows as u64)?;
+    put(out, p.link as u64)?;
+    put(out, p.routing as u64)?;
+    put(out, p.buffer as u64)?;
+    put(out, p.method as u64)?;
+    put(out, p.priority_flits as u64)
 }
 
-fn put_flow(f: Flow) {
-    put(f.id as u64);
-    put(f.priority as u64);
-    put(f.source as u64);
-    put(f.destination as u64);
-    put(f.flits as u64);
-    put(f.period as u64);
-    put(f.deadline as u64);
-    put(f.jitter as u64);
+fn put_flow<W: Write>(out: &mut W, f: Flow) -> io::Result<()> {
+    put(out, f.id as u64)?;
+    put(out, f.priority as u64)?;
+    put(out, f.source as u64)?;
+    put(out, f.destination as u64)?;
+    put(out, f.flits as u64)?;
+    put(out, f.period as u64)?;
+    put(out, f.deadline as u64)?;
+    put(out, f.jitter as u64)
 }
 
-fn put_flows(flows: Flows, count: usize) {
-    let mut i: usize = 0;
-    while i < 64 {
+fn put_flows<W: Write>(out: &mut W, flows: Flows, count: usize) -> io::Result<()> {
+    for i in 0..64 {
         if i < count {
-            put_flow(flows[i]);
+            put_flow(out, flows[i])?;
         }
-        i += 1;
     }
+    Ok(())
 }
 
 // The verdict's number, the named flow, the bound and the rounds.
-fn put_answer(a: Answer) {
-    put(a.id as u64);
-    let v = a.verdict;
-    match v {
-        Verdict::Bounded(bound, rounds) => put_four(0, 65535, bound, rounds),
-        Verdict::Late(rounds) => put_four(1, 65535, 0, rounds),
-        Verdict::Waits(id) => put_four(2, id, 0, 0),
+fn put_answer<W: Write>(out: &mut W, a: Answer) -> io::Result<()> {
+    put(out, a.id as u64)?;
+    match a.verdict {
+        Verdict::Bounded(bound, rounds) => put_four(out, 0, 65535, bound, rounds),
+        Verdict::Late(rounds) => put_four(out, 1, 65535, 0, rounds),
+        Verdict::Waits(id) => put_four(out, 2, id, 0, 0),
     }
 }
 
-fn put_four(verdict: u8, named: u16, bound: u32, rounds: u32) {
-    put(verdict as u64);
-    put(named as u64);
-    put(bound as u64);
-    put(rounds as u64);
+fn put_four<W: Write>(
+    out: &mut W,
+    verdict: u8,
+    named: u16,
+    bound: u32,
+    rounds: u32,
+) -> io::Result<()> {
+    put(out, verdict as u64)?;
+    put(out, named as u64)?;
+    put(out, bound as u64)?;
+    put(out, rounds as u64)
 }
 
-fn put_answers(list: Answers, count: usize) {
-    let mut i: usize = 0;
-    while i < 64 {
+fn put_answers<W: Write>(out: &mut W, list: Answers, count: usize) -> io::Result<()> {
+    for i in 0..64 {
         if i < count {
-            put_answer(list[i]);
+            put_answer(out, list[i])?;
         }
-        i += 1;
     }
+    Ok(())
 }
 
-fn put_plan(plan: Plan) {
-    let flows = plan.flows;
-    put_platform(plan.platform);
-    put_flows(flows, plan.count);
+fn put_plan<W: Write>(out: &mut W, plan: Plan) -> io::Result<()> {
+    put_platform(out, plan.platform)?;
+    put_flows(out, plan.flows, plan.count)
 }
 
 // Acceptance is number 0 at place 0.
-fn put_two(number: u8, place: usize) {
-    put(number as u64);
-    put(place as u64);
+fn put_two<W: Write>(out: &mut W, number: u8, place: usize) -> io::Result<()> {
+    put(out, number as u64)?;
+    put(out, place as u64)
 }
 
-fn put_outcome(outcome: Outcome) {
+fn put_outcome<W: Write>(out: &mut W, outcome: Outcome) -> io::Result<()> {
     match outcome {
-        Outcome::Accepted => put_two(0, 0),
-        Outcome::Refused(number, place) => put_two(number, place),
+        Outcome::Accepted => put_two(out, 0, 0),
+        Outcome::Refused(number, place) => put_two(out, number, place),
     }
 }
 
-fn put_case(bytes: &[u8]) {
+fn put_case<W: Write>(out: &mut W, bytes: &[u8]) -> io::Result<()> {
     let reading = plan::read(bytes);
     let outcome = reading.outcome;
     let plan = reading.plan;
-    put_outcome(outcome);
-    put_plan(plan);
+    put_outcome(out, outcome)?;
+    put_plan(out, plan)?;
     if let Outcome::Accepted = outcome {
-        put_answers(analyse_plan(plan), plan.count);
+        put_answers(out, analyse_plan(plan), plan.count)?;
     }
-    io::write_all(STDOUT_FILENO, b"\n");
+    out.write_all(b"\n")
 }
 
 // Fills the first n bytes, or answers false where the file ends before or there are not as many.
-fn fill(file: i32, into: &mut [u8], n: usize) -> bool {
+fn fill<R: Read>(file: &mut R, into: &mut [u8], n: usize) -> io::Result<bool> {
     if into.len() < n {
-        return false;
+        return Ok(false);
     }
-    io::read_full(file, &mut into[..n]) == n
+    match file.read_exact(&mut into[..n]) {
+        Ok(()) => Ok(true),
+        Err(error) => {
+            if error.kind() == ErrorKind::UnexpectedEof {
+                Ok(false)
+            } else {
+                Err(error)
+            }
+        }
+    }
 }
 
-fn put_first(bytes: &[u8], n: usize) {
+fn put_first<W: Write>(out: &mut W, bytes: &[u8], n: usize) -> io::Result<()> {
     if n <= bytes.len() {
-        put_case(&bytes[..n]);
+        put_case(out, &bytes[..n])?;
     }
+    Ok(())
 }
 
 // The length that stands in front of the next plan, or one that no plan has where the file ends.
-fn next_length(file: i32) -> usize {
+fn next_length<R: Read>(file: &mut R) -> io::Result<usize> {
     let mut head = [0u8; 2];
-    if fill(file, &mut head, 2) {
-        return two_at(&head, 0) as usize;
+    if fill(file, &mut head, 2)? {
+        return Ok(two_at(&head, 0) as usize);
     }
-    65536
+    Ok(65536)
 }
 
 // The next plan's line, or false where the file ends.
-fn next_plan(file: i32) -> bool {
-    let n = next_length(file);
+fn next_plan<R: Read, W: Write>(file: &mut R, out: &mut W) -> io::Result<bool> {
+    let n = next_length(file)?;
     let mut buffer = [0u8; 4096];
-    if fill(file, &mut buffer, n) {
-        put_first(&buffer, n);
-        return true;
+    if fill(file, &mut buffer, n)? {
+        put_first(out, &buffer, n)?;
+        return Ok(true);
     }
-    false
+    Ok(false)
 }
 
-fn main() {
-    let name = b"plans";
-    let file = os::open_read(name);
-    if file < 0 {
-        os::fail(name);
-        return;
-    }
-    let mut left: usize = 10000;
-    while 0 < left {
-        left -= 1;
-        if next_plan(file) == false {
-            left = 0;
+// At most 10,000 plans.
+fn put_cases<R: Read, W: Write>(file: &mut R, out: &mut W) -> io::Result<()> {
+    for _ in 0..10000 {
+        if !next_plan(file, out)? {
+            break;
         }
+    }
+    out.flush()
+}
+
+fn main(rt: HostRuntime) -> io::Result<()> {
+    match File::open(&rt, "plans") {
+        Ok(file) => {
+            let mut reader = BufReader::new(rt.alloc(), file)?;
+            let mut writer = BufWriter::new(rt.alloc(), io::writer(&rt))?;
+            put_cases(&mut reader, &mut writer)
+        }
+        Err(error) => eprintln!(rt; "plans: {error}"),
     }
 }
