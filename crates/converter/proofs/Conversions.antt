@@ -1,7 +1,6 @@
 -- Document 02, L6: what a conversion comes to, of any bytes, said without a reader: `Laid` and `Legal` of plan's specs say which bytes are a plan, `RefusedBecause` why
 -- others are none.
 use Prim.Native.Nat.{ℕ, ◌<◌}
-use native.Mathlib.Omega.{arith}
 use native.Mathlib.Decide.{ℕ_discrete}
 use mathlib.Core.Path.{◌≡◌, refl, sym, ap, ◌∙◌}
 use mathlib.Core.Logic.{◌↔◌, ◌≢◌}

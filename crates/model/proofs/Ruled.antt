@@ -3,7 +3,7 @@ use Prim.Native.Nat.{ℕ, zero, suc, ◌≤◌, ◌<◌}
 use native.Mathlib.Omega.{arith}
 use mathlib.Core.Path.{◌≡◌, refl}
 use mathlib.Core.List.{List, [], ◌∷◌, map}
-use mathlib.Core.Logic.{inl, inr}
+use mathlib.Core.Logic.{inl}
 use lib.ListN.{replicate}
 use Rattle.framing.specs.First.{◌when◌else◌}
 use Rattle.plan_values.specs.declared.Platform.{Platform}
@@ -17,7 +17,6 @@ use Rattle.recurrence.specs.Verdicts.{replaced, Rounds}
 use Rattle.recurrence.specs.ComesTo.{comes_to_from, comes_to}
 use Rattle.model.specs.declared.Verdict.{Verdict}
 use Rattle.model.specs.declared.Verdict.TheVariants.{Bounded, Late, Waits}
-use Rattle.model.specs.declared.Answer.{Answer}
 use Rattle.model.specs.Latency.{method_used, latency}
 use Rattle.model.specs.Interference.{direct_for, indirect_for, comes_before, those}
 use Rattle.model.specs.Delays.{allowance, weight, term, terms}

@@ -1,5 +1,5 @@
 -- Plan P written from its numbers, and refusals with their exact places, computed.
-use Prim.Native.Nat.{ℕ, zero, suc, ◌<◌}
+use Prim.Native.Nat.{ℕ, zero, suc}
 use native.Mathlib.Omega.{arith}
 use mathlib.Core.Path.{◌≡◌, refl, ap}
 use mathlib.Core.List.{List, [], ◌∷◌, ◌++◌}
@@ -14,10 +14,9 @@ use Rattle.plan_checks.specs.Checks.{header_at, tagged_at, frame_at, clash_at, t
 use Rattle.plan.specs.Records.{fields_from, ◌then◌, body_at, record_at}
 use Rattle.plan.specs.Reading.{accepted, refused, after, records, read_plan}
 use Rattle.plan.specs.PlanP.{P, with_seventh}
-use Rattle.plan.specs.Legal.{flow}
 use Rattle.plan_values.specs.declared.Platform.{Platform}
 use Rattle.plan_values.specs.declared.Flow.{Flow}
-use Rattle.writer_bytes.specs.PlanBytes.{flow_values, platform_bytes, flow_bytes, plan_bytes}
+use Rattle.writer_bytes.specs.PlanBytes.{platform_bytes, flow_bytes, plan_bytes}
 use Rattle.writer.specs.Written.{listed, returned, left, GivenBack}
 use Rattle.writer.specs.Fits.{Fits, FitsEach}
 

@@ -1,13 +1,11 @@
 -- What the type of `write`'s flows says of them: each value is below what its field's bytes can hold.
-use Prim.Native.Nat.{ℕ, zero, suc, ◌<◌}
+use Prim.Native.Nat.{zero, suc}
 use mathlib.Core.List.{List, [], ◌∷◌}
 use native.Mathlib.Omega.{arith}
-use lib.ListN.{length}
 use mir.Val.{Val}
 use denote.Array.{each}
 use denote.Laws.{Is}
 use denote.Shadow.{shadow}
-use Rattle.plan.specs.Legal.{flow}
 use Rattle.plan_table.specs.Table.{flow_fields}
 use Rattle.plan_values.specs.declared.Flow.{Flow}
 use Rattle.plan_values.specs.contracts.Flow as T

@@ -1,5 +1,4 @@
 -- `engine::analyse_table` meets its contract: a line for each need, by the lemmas of Answering and Turns.
-use Prim.Native.Nat.{◌-◌}
 use native.Mathlib.Omega.{arith}
 use mathlib.Core.Path.{ap, ◌∙◌}
 use lib.ListN.{replicate}
@@ -80,10 +79,10 @@ pub hit_row-requires : goal.hit_row-requires
 hit_row-requires c =
     let t = turned c.loop-plan.invariant c.next_flow-i.ensures c.if-i-eq64.false _ c.row_of-row.ensures in
     let s = c.waits_on-w.ensures.1 in
-    hits_asked c.loop-plan.invariant c.next_flow-i.ensures c.if-i-eq64.false _ c.row_of-row.ensures (elim c.if-w-lt64.branch
-        [ then-w-lt64 w ↦ w.verdict-is ∙ waits_read t s w.if-w-lt64.true w.place.ensures.0
-        | else-w-lt64 w ↦ solved t (free t s w.if-w-lt64.false) c.way_of-way.ensures c.latency-c.ensures w.limit.ensures w.solve-s.ensures (w.verdict-is ∙ w.verdict_of-verdict.ensures)
-        ]) c.bound_of-bound.ensures c.looked_at-seen.ensures.1
+    hits_asked c.loop-plan.invariant c.next_flow-i.ensures c.if-i-eq64.false _ c.row_of-row.ensures (elim c.if-w-lt64.branch [
+      | then-w-lt64 w ↦ w.verdict-is ∙ waits_read t s w.if-w-lt64.true w.place.ensures.0
+      | else-w-lt64 w ↦ solved t (free t s w.if-w-lt64.false) c.way_of-way.ensures c.latency-c.ensures w.limit.ensures w.solve-s.ensures (w.verdict-is ∙ w.verdict_of-verdict.ensures)
+    ]) c.bound_of-bound.ensures c.looked_at-seen.ensures.1
 
 pub offset_bounds-hits-i : goal.offset_bounds-hits-i
 offset_bounds-hits-i c = offset_fits c.next_flow-i.ensures.0 _ (lit≤ tt)
@@ -107,7 +106,7 @@ pub loop-plan-preserved : goal.loop-plan-preserved
 loop-plan-preserved c =
     let t = turned c.loop-plan.invariant c.next_flow-i.ensures c.if-i-eq64.false _ c.row_of-row.ensures in
     let s = c.waits_on-w.ensures.1 in
-    answering_more c.loop-plan.invariant c.next_flow-i.ensures c.if-i-eq64.false _ c.row_of-row.ensures (elim c.if-w-lt64.branch
-        [ then-w-lt64 w ↦ w.verdict-is ∙ waits_read t s w.if-w-lt64.true w.place.ensures.0
-        | else-w-lt64 w ↦ solved t (free t s w.if-w-lt64.false) c.way_of-way.ensures c.latency-c.ensures w.limit.ensures w.solve-s.ensures (w.verdict-is ∙ w.verdict_of-verdict.ensures)
-        ]) c.bound_of-bound.ensures c.way_of-way.ensures c.looked_at-seen.ensures.0 c.latency-c.ensures c.hit_row.ensures c.figures_of.ensures
+    answering_more c.loop-plan.invariant c.next_flow-i.ensures c.if-i-eq64.false _ c.row_of-row.ensures (elim c.if-w-lt64.branch [
+      | then-w-lt64 w ↦ w.verdict-is ∙ waits_read t s w.if-w-lt64.true w.place.ensures.0
+      | else-w-lt64 w ↦ solved t (free t s w.if-w-lt64.false) c.way_of-way.ensures c.latency-c.ensures w.limit.ensures w.solve-s.ensures (w.verdict-is ∙ w.verdict_of-verdict.ensures)
+    ]) c.bound_of-bound.ensures c.way_of-way.ensures c.looked_at-seen.ensures.0 c.latency-c.ensures c.hit_row.ensures c.figures_of.ensures

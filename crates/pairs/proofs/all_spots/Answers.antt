@@ -1,5 +1,4 @@
 -- `pairs::all_spots` meets its contract.
-use Prim.Native.Nat.{◌-◌}
 use mathlib.Core.Path.{ap}
 use lib.ListN.{replicate}
 use Rattle.plan_values.specs.Values.{blank_flow}

@@ -1,5 +1,4 @@
 -- `pairs::pair_row` meets its contract.
-use Prim.Native.Nat.{◌-◌}
 use mathlib.Core.Path.{ap}
 use lib.ListN.{replicate}
 use Rattle.pairs.proofs.Filling.{filling_none, filling_more, filling_all}

@@ -1,5 +1,4 @@
 -- `recurrence::settle` meets its contract. Outside, x climbs towards the limit; inside, the terms are summed.
-use Prim.Native.Nat.{◌-◌}
 use native.Mathlib.Omega.{arith}
 use Rattle.recurrence.proofs.Windows.{right_side_rising}
 use Rattle.recurrence.proofs.Summing.{summed_none, summed_all, summed_fair, summed_more, summed_fits}

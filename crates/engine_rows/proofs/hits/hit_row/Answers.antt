@@ -1,5 +1,4 @@
 -- `engine_rows::hits::hit_row` meets its contract.
-use Prim.Native.Nat.{◌-◌}
 use native.Mathlib.Omega.{arith}
 use mathlib.Core.Path.{refl}
 use Rattle.engine_rows.proofs.Places.{dealing_none, dealing_more, dealing_all}

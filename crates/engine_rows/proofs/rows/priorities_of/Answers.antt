@@ -1,5 +1,4 @@
 -- `engine_rows::rows::priorities_of` meets its contract.
-use Prim.Native.Nat.{◌-◌}
 use mathlib.Core.Path.{refl, ap}
 use Rattle.plan_values.specs.declared.Flow.{Flow}
 use Rattle.engine_rows.proofs.Scenes.{scene_read}

@@ -1,5 +1,4 @@
 -- `engine_rows::rows::row_of` meets its contract: two columns are filled and the direct flows named, side by side.
-use Prim.Native.Nat.{◌-◌}
 use mathlib.Core.Path.{refl, sym, ◌∙◌}
 use Rattle.engine_rows.proofs.Placing.{placing_none, placing_more, placing_all}
 use Rattle.engine_rows.proofs.Places.{naming_none, naming_more, naming_skip, naming_all}
@@ -17,9 +16,9 @@ loop-k-preserved c =
     let e = c.is_direct.ensures in (
       placing_more l.invariant.0 h refl,
       placing_more l.invariant.1 h refl,
-      elim c.if-is_direct.branch
-      [ then-is_direct w ↦ rw (w.direct-is, w.many-is) (naming_more l.invariant.2 h (sym e ∙ w.if-is_direct.true) refl)
-      | else-is_direct w ↦ rw (w.direct-is, w.many-is) (naming_skip l.invariant.2 h (sym e ∙ w.if-is_direct.false))
+      elim c.if-is_direct.branch [
+        | then-is_direct w ↦ rw (w.direct-is, w.many-is) (naming_more l.invariant.2 h (sym e ∙ w.if-is_direct.true) refl)
+        | else-is_direct w ↦ rw (w.direct-is, w.many-is) (naming_skip l.invariant.2 h (sym e ∙ w.if-is_direct.false))
       ],
     )
 

@@ -1,5 +1,4 @@
 -- `engine_rows::search::next_flow` meets its contract.
-use Prim.Native.Nat.{◌-◌}
 use Rattle.engine_rows.proofs.Searching.{searching_none, searching_new, searching_old, searching_all}
 use borrow.Author.Rules.{rules}
 use Rattle.engine_rows.proofs.search.next_flow.Goals.{then-is_better, else-is_better}
@@ -12,9 +11,9 @@ pub loop-k-preserved : goal.loop-k-preserved
 loop-k-preserved c =
     let l = c.loop-k in
     let h = c.loop-k-test.true in
-    elim c.if-is_better.branch
-    [ then-is_better w ↦ rw (w.best-is, w.lowest-is) (searching_new l.invariant h c.is_better.ensures w.if-is_better.true)
-    | else-is_better w ↦ rw (w.best-is, w.lowest-is) (searching_old l.invariant h c.is_better.ensures w.if-is_better.false)
+    elim c.if-is_better.branch [
+      | then-is_better w ↦ rw (w.best-is, w.lowest-is) (searching_new l.invariant h c.is_better.ensures w.if-is_better.true)
+      | else-is_better w ↦ rw (w.best-is, w.lowest-is) (searching_old l.invariant h c.is_better.ensures w.if-is_better.false)
     ]
 
 pub returns : goal.returns

@@ -1,5 +1,4 @@
 -- `engine_rows::search::waits_on` meets its contract.
-use Prim.Native.Nat.{◌-◌}
 use native.Mathlib.Omega.{arith}
 use Rattle.engine_rows.proofs.Searching.{searching_none, searching_new, searching_old, searching_all}
 use borrow.Author.Rules.{rules}
@@ -20,9 +19,9 @@ loop-m-preserved c =
     let l = c.loop-m in
     let h = c.loop-m-test.true in
     let e = rw c.place-j.ensures.0 at c.is_better.ensures in
-    elim c.if-is_better.branch
-    [ then-is_better w ↦ rw (w.best-is, w.lowest-is, c.place-j.ensures.0) (searching_new l.invariant h e w.if-is_better.true)
-    | else-is_better w ↦ rw (w.best-is, w.lowest-is) (searching_old l.invariant h e w.if-is_better.false)
+    elim c.if-is_better.branch [
+      | then-is_better w ↦ rw (w.best-is, w.lowest-is, c.place-j.ensures.0) (searching_new l.invariant h e w.if-is_better.true)
+      | else-is_better w ↦ rw (w.best-is, w.lowest-is) (searching_old l.invariant h e w.if-is_better.false)
     ]
 
 pub returns : goal.returns

@@ -1,5 +1,4 @@
 -- `engine_terms::loads::sum_loads` meets its contract.
-use Prim.Native.Nat.{◌-◌}
 use native.Mathlib.Omega.{arith}
 use Rattle.engine_terms.proofs.Thirds.{adding_none, adding_room, adding_more, adding_all}
 use borrow.Author.Rules.{rules}
