@@ -17,7 +17,7 @@ fn with_third(l: Loads, shared: u8, place: u8, first: u8, cap: u32, hit: u32, co
     requires { (l.up + up_part shared place first hit cost ≤ 1_000_000_000) × (l.down + down_part shared place first cap hit cost ≤ 1_000_000_000) }
     ensures { (result.up ≡ l.up + up_part shared place first hit cost) × (result.down ≡ l.down + down_part shared place first cap hit cost) }
 {
-    // "not direct for i": k is above j and j above i, so that sharing a link decides (`model` `Sides.indirect-by-count`).
+    // "not direct for i": k is above j and j above i, so that sharing a link decides (`model` `Sides.indirect_by_count`).
     if 0 < shared {
         return l;
     }

@@ -1,5 +1,5 @@
 // "In the reader, the reading place travels together with the bytes being read."
-// A function that takes one takes it apart and calls a covered function on the slice and the place.
+// A function that takes one calls a plain function on its slice and its place.
 #![tactic(auto)]
 
 ghost use Rattle.std.specs.Prelude.{◌≡◌, ◌+◌, ◌≤◌, length};

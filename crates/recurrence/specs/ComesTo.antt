@@ -1,4 +1,4 @@
--- What a recurrence R = F(R) comes to from the latency c under a limit, computed. For a right side it is the one allowed (Theorems.comes-to-allowed).
+-- What a recurrence R = F(R) comes to from the latency c under a limit, computed. For a right side it is the one allowed (Theorems.comes_to_allowed).
 use Rattle.std.specs.Prelude.{ℕ, zero, suc, ◌+◌, ◌-◌, true, false, eqb, ltb}
 use Rattle.recurrence.specs.declared.Settled.{Settled}
 use Rattle.recurrence.specs.declared.Settled.TheVariants.{Bounded, Late}

@@ -1,4 +1,4 @@
--- `engine::analyse_table` meets its contract: a line for each need, by the lemmas of Answering and Turns.
+-- `engine::analyse_table` meets its contract: a line for each goal, by the lemmas of Answering and Turns.
 use native.Mathlib.Omega.{arith}
 use mathlib.Core.Path.{ap, ◌∙◌}
 use lib.ListN.{replicate}

@@ -1,4 +1,4 @@
--- `engine::analyse_table` meets its contract: a line for each need, by the lemmas of Answering and Turns.
+-- `engine::analyse_table` meets its contract: a line for each goal, by the lemmas of Answering and Turns.
 use Prim.Native.Nat.{◌-◌}
 use Rattle.engine.proofs.Answering.{Answering}
 use Rattle.engine.proofs.analyse_table.Given as goal

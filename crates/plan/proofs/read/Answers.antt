@@ -1,4 +1,4 @@
--- `plan::read` meets its contract: a line for each need, by the lemmas of Turns, Scan and Columns.
+-- `plan::read` meets its contract: a line for each goal, by the lemmas of Turns, Scan and Columns.
 use native.Mathlib.Omega.{arith}
 use mathlib.Core.Path.{sym, ap, ◌∙◌}
 use lib.ListN.{replicate}

@@ -1,4 +1,4 @@
--- `plan::read` meets its contract: a line for each need, by the lemmas of Turns, Scan and Columns.
+-- `plan::read` meets its contract: a line for each goal, by the lemmas of Turns, Scan and Columns.
 use Prim.Native.Nat.{◌-◌}
 use lib.ListN.{length}
 use Rattle.plan.proofs.Turns.{Sofar, Inside}
