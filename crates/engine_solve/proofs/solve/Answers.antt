@@ -1,5 +1,4 @@
 -- `engine_solve::solve` meets its contract.
-use Prim.Native.Nat.{◌-◌}
 use native.Mathlib.Omega.{arith}
 use mathlib.Core.Path.{ap}
 use Rattle.recurrence.specs.Columns.{held}
