@@ -1,9 +1,8 @@
 // What document 01 says of a plan's flows: its words as types, as definitions (specs/) and as theorems (proofs/). The engine
 // computes it.
-
-// "Method 1 is SB, 2 is XLWX, 3 is IBN"
 #![tactic(auto)]
 
+// "Method 1 is SB, 2 is XLWX, 3 is IBN"
 #[derive(Clone, Copy)]
 pub enum Method {
     SB,
