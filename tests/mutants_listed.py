@@ -69,12 +69,12 @@ def faults_of(text, rule, judge):
 
 # Something of the list, and what makes it untrue: a definition left out, another change, a law of a proof, a theorem that computes nothing, one that is no theorem of docs/THEOREMS.md.
 PLANTED = [
-    ("| `Latency.houseDefault` |", "| `Latency.houseRule` |"),
+    ("| `Latency.house_default` |", "| `Latency.house_rule` |"),
     ("`= IBN` → `= SB`", "`= IBN` → `= XLWX`"),
     ("`plan_table` `Examples.widths`", "`plan_table` `Lengths.filled`"),
     ("`plan_table` `Examples.widths`", "`plan_table` `Examples.heights`"),
     ("`plan_table` `Examples.places`", "`plan_table` `Numbers.numbered`"),
-    ("`model` `Paper.sb-is-3` (theorem)", "`model` `Paper.sb-is-3`"),
+    ("`model` `Paper.sb_is_3` (theorem)", "`model` `Paper.sb_is_3`"),
     ("`model` `Figures.figures`", "`model` `Figures.figures` (theorem)"),
 ]
 

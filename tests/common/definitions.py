@@ -8,13 +8,15 @@ from dataclasses import dataclass, field
 # The crates whose definitions are changed.
 CRATES = ["plan_values", "plan_table", "plan_checks", "plan", "writer_bytes", "writer", "mesh", "recurrence", "model", "reply", "converter", "lines_items", "lines_mesh", "lines_flow", "lines"]
 
-TOKEN = re.compile(r"--[^\n]*|\s+|[(){}\[\];,]|[^\s(){}\[\];,]+")
+# A word ends where a projection begins: `p.method` is `p` and `.method`.
+TOKEN = re.compile(r"--[^\n]*|\s+|[(){}\[\];,]|\.[\w«][^\s(){}\[\];,.]*|(?:[^\s(){}\[\];,.]|\.(?![\w«]))+")
 NUMBER = re.compile(r"0x[0-9A-Fa-f]+|[0-9][0-9_]*")
-NAME = re.compile(r"[^\W\d_][\w′·-]*'?")
+NAME = re.compile(r"[^\W\d_]\w*'?")
 OPERATORS = set("+ - * / % ^ ∷ ++ && || ≡ ≢ < ≤ × ⊎ → ↔ ↦ ÷ = : | , ; when else then in let elim record λ ⌈ ⌉".split())
 # Where one expression ends and the next begins, at one depth of brackets.
 SEPARATORS = set("= : | , ; ↦ when else then in let elim × ⊎ → ↔ λ ⌈ ÷ ⌉".split())
 OPENING, CLOSING = "([{", ")]}"
+PROJECTED = "p.f"  # the text of a group that is no brackets
 
 # One word for another, by kind. A choice that does not fit the types makes no mutant.
 WORDS = {
@@ -24,11 +26,11 @@ WORDS = {
     "case": {
         "SB": ["XLWX"], "XLWX": ["IBN"], "IBN": ["SB"], "One": ["Two"], "Two": ["Four"], "Four": ["Two"],
         "PlatformRecord": ["FlowRecord"], "FlowRecord": ["EndRecord"], "EndRecord": ["PlatformRecord"],
-        "oneAt": ["twoAt"], "twoAt": ["oneAt"], "fourAt": ["twoAt"], "twoBytes": ["fourBytes"], "fourBytes": ["twoBytes"],
+        "one_at": ["two_at"], "two_at": ["one_at"], "four_at": ["two_at"], "two_bytes": ["four_bytes"], "four_bytes": ["two_bytes"],
         "IsPlatform": ["IsFlow"], "IsFlow": ["IsEnd"], "IsEnd": ["IsPlatform"],
     },
     "field": {
-        ".columns": [".rows"], ".rows": [".columns"], ".link": [".routing"], ".routing": [".buffer"], ".buffer": [".link"], ".method": [".buffer"], ".«priority_flits»": [".method"],
+        ".columns": [".rows"], ".rows": [".columns"], ".link": [".routing"], ".routing": [".buffer"], ".buffer": [".link"], ".method": [".buffer"], ".priority_flits": [".method"],
         ".id": [".priority"], ".priority": [".id"], ".source": [".destination"], ".destination": [".source"], ".flits": [".period"],
         ".period": [".deadline", ".weight", ".nodes"], ".deadline": [".period", ".jitter"], ".jitter": [".deadline"],
         ".count": [".first"], ".first": [".count"], ".shift": [".weight"], ".weight": [".shift"], ".nodes": [".period"],
@@ -37,12 +39,11 @@ WORDS = {
 }
 # Where a word that a mutant brings in comes from.
 MODULES = {
-    "lib.Dec": ["ltb", "leb"], "Prim.Native.Nat": ["_+_", "_-_", "_/_", "_%_", "_<_", "_≤_", "max"],
-    "mathlib.Core.Bool": ["true", "false", "_&&_", "_||_"], "mathlib.Core.Path": ["_≡_"],
-    "Rattle·framing_numbers.specs.Numbers": ["oneAt", "twoAt"], "Rattle·framing.specs.BigEndian": ["twoBytes", "fourBytes"],
-    "Rattle·framing_numbers.specs.declared.Width.the-variants": ["Two", "Four"],
-    "Rattle·plan_table{own}.specs.declared.Kind.the-variants": ["PlatformRecord", "FlowRecord", "EndRecord"],
-    "Rattle·model{own}.specs.declared.Method.the-variants": ["SB", "XLWX", "IBN"],
+    "Rattle.std.specs.Prelude": ["ltb", "leb", "◌+◌", "◌-◌", "◌/◌", "◌%◌", "◌<◌", "◌≤◌", "max", "true", "false", "◌&&◌", "◌||◌", "◌≡◌"],
+    "Rattle.framing_numbers.specs.Numbers": ["one_at", "two_at"], "Rattle.framing.specs.BigEndian": ["two_bytes", "four_bytes"],
+    "Rattle.framing_numbers.specs.declared.Width.TheVariants": ["Two", "Four"],
+    "Rattle.plan_table.specs.declared.Kind.TheVariants": ["PlatformRecord", "FlowRecord", "EndRecord"],
+    "Rattle.model.specs.declared.Method.TheVariants": ["SB", "XLWX", "IBN"],
 }
 SAME_EITHER_WAY = {"min", "eqb", "≡"}
 LIMITS = {"ltb", "leb", "UpTo", "Within", "Outside", "<", "≤"}
@@ -59,7 +60,11 @@ class Token:
 
     @property
     def is_group(self):
-        return self.text in ("()", "[]", "{}") and bool(self.inner)
+        return self.text in ("()", "[]", "{}", PROJECTED) and bool(self.inner)
+
+    @property
+    def is_projected(self):
+        return self.text == PROJECTED
 
 
 @dataclass
@@ -105,7 +110,7 @@ def tokens_of(text, start, end):
 
 
 def grouped(tokens):
-    """The same with brackets as groups."""
+    """The same with brackets as groups, and with what is projected as a group with its projections: `p.method`."""
     stack = [[]]
     opened = []
     for token in tokens:
@@ -117,6 +122,10 @@ def grouped(tokens):
                 continue
             first, inner = opened.pop(), stack.pop()
             stack[-1].append(Token(first.text + token.text, first.start, token.end, inner))
+        elif token.text.startswith(".") and stack[-1] and stack[-1][-1].end == token.start:
+            whole = stack[-1].pop()
+            parts = whole.inner if whole.is_projected else [whole]
+            stack[-1].append(Token(PROJECTED, parts[0].start, token.end, [*parts, token]))
         else:
             stack[-1].append(token)
     return stack[0]
@@ -377,7 +386,7 @@ def spread(alike, most):
 def signatures_of(texts):
     """The types of the arguments of every definition and record."""
     found = {"ltb": ["ℕ", "ℕ"], "leb": ["ℕ", "ℕ"], "take": ["ℕ", "list"], "drop": ["ℕ", "list"], "replicate": ["ℕ", "one"],
-             "getD": ["list", "ℕ", "one"], "cond": ["Bool", "one", "one"], "map": ["function", "list"]}
+             "get_or": ["list", "ℕ", "one"], "cond": ["Bool", "one", "one"], "map": ["function", "list"]}
     for text in texts:
         for name, signature in re.findall(r"^ *(?:abbrev|unfoldable) pub (\S+) : (.*)$", text, re.M):
             found[name] = types_of(signature)
@@ -386,15 +395,14 @@ def signatures_of(texts):
     return found
 
 
-def imported(text, new, own):
+def imported(text, new):
     """The file with what a change brings in imported, if it is not yet."""
     names = {w for w in TOKEN.findall(new)}
     lines = []
     for module, brought in MODULES.items():
         for name in brought:
-            if name.strip("_") in names and not re.search(r"^use [^\n]*[{ ]%s[,}]" % re.escape(name), text, re.M):
-                where = module.replace("{own}", "·specs" if "Rattle·%s{own}" % own in module else "")
-                lines.append("use %s.{%s}\n" % (where, name))
+            if name.strip("◌") in names and not re.search(r"^use [^\n]*[{ ]%s[,}]" % re.escape(name), text, re.M):
+                lines.append("use %s.{%s}\n" % (module, name))
     return "".join(lines) + text
 
 
@@ -415,7 +423,7 @@ def mutants_of(crate, files, signatures):
         for definition in definitions_of(file, text):
             by_kind = {}
             for kind, change, changed, brought in distinct(text, changes_of(text, definition, signatures)):
-                by_kind.setdefault(kind, []).append(Mutant(crate, file, definition.name, kind, change, imported(changed, brought, crate)))
+                by_kind.setdefault(kind, []).append(Mutant(crate, file, definition.name, kind, change, imported(changed, brought)))
             yield from by_kind.values()
 
 
