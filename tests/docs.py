@@ -11,7 +11,7 @@ import sys
 
 ROOT = pathlib.Path(__file__).resolve().parent.parent
 DOCUMENTS = [ROOT / "README.md", *sorted((ROOT / "docs").rglob("*.md")), ROOT / "plans" / "README.md", ROOT / "CHANGELOG.md"]
-CRATES = [line.split(":")[0] for line in (ROOT / "crates.txt").read_text().splitlines() if line.strip()]
+CRATES = [line.split(":")[0].split()[0] for line in (ROOT / "crates.txt").read_text().splitlines() if line.strip()]
 LIBRARIES = [crate for crate in CRATES if (ROOT / "crates" / crate / "src" / "lib.rt").exists()]
 TOP = {path.name for path in ROOT.iterdir()} - {"target"}
 TOKEN = re.compile(r"`([^`\n]+)`")

@@ -240,8 +240,8 @@ def methods(texts):
     """The number of each method and the house default, by the engine, which must be the definition's."""
     numbers = {name: int(digit) for digit, name in re.findall(r"(\d) => Method::(\w+),", texts[METHOD])}
     default = only(r"fn house_default\(\) -> Method\n.*\n{\n    Method::(\w+)\n}", texts[METHOD])
-    defined = {name: int(digit) for name, digit in re.findall(r"^methodNumber (\w+) = (\d)$", texts[LATENCY], re.M)}
-    if numbers != defined or default != only(r"^houseDefault = (\w+)$", texts[LATENCY]):
+    defined = {name: int(digit) for name, digit in re.findall(r"^method_number (\w+) = (\d)$", texts[LATENCY], re.M)}
+    if numbers != defined or default != only(r"^house_default = (\w+)$", texts[LATENCY]):
         raise LookupError(f"{METHOD} has {numbers} and by default {default}, and {LATENCY} has not")
     return numbers, default
 
@@ -357,8 +357,8 @@ PLANTED = [
     (CHANGES, "## 0.8.0 ", "## 0.9.0 "),
     (METHOD, "    Method::IBN\n}", "    Method::XLWX\n}"),
     (METHOD, "1 => Method::SB", "1 => Method::XLWX"),
-    (LATENCY, "houseDefault = IBN", "houseDefault = XLWX"),
-    (LATENCY, "methodNumber IBN = 3", "methodNumber IBN = 2"),
+    (LATENCY, "house_default = IBN", "house_default = XLWX"),
+    (LATENCY, "method_number IBN = 3", "method_number IBN = 2"),
     (HEADER, "METHOD_XLWX 2", "METHOD_XLWX 1"),
     (HEADER, "METHOD_DEFAULT 0", "METHOD_DEFAULT 3"),
     (HEADER, "the house default, which is IBN", "the house default, which is XLWX"),

@@ -23,7 +23,7 @@ def declarations_of(text):
 
 def laws_used(text):
     """The names that a file takes from proofs/."""
-    return {name.strip() for names in re.findall(r"^use Rattle·\w+(?:·proofs)?\.proofs\.\S+?\.\{([^}]*)\}", text, re.M) for name in names.split(",")}
+    return {name.strip() for names in re.findall(r"^use Rattle\.\w+\.proofs\.\S+?\.\{([^}]*)\}", text, re.M) for name in names.split(",")}
 
 
 def is_example(statement, bodies, laws):

@@ -30,7 +30,7 @@ class Kept:
         seen.add(file)
         paths = [self.copy.folder / "crates" / crate / part / (file + ".antt") for part in ("specs", "proofs")]
         text = "".join(path.read_text() for path in paths if path.exists())
-        used = re.findall(r"^use Rattle·%s·proofs\.proofs\.(\w+)" % crate, text, re.M)
+        used = re.findall(r"^use Rattle\.%s\.proofs\.(\w+)" % crate, text, re.M)
         return [text] + [more for name in used for more in self.examples_of(crate, name, seen)]
 
     def stamp(self, mutant, verdict):

@@ -1,20 +1,23 @@
 """A copy of the crates without their code: types, definitions, laws, theorems and computed examples are left. What is refused there is refused whatever any code says."""
-import os
 import pathlib
 import re
 import shutil
 import subprocess
+import sys
 
-KEPT = re.compile(r"(?:#\[.*\]\n)*(?:pub )?(?:struct|enum|type|mod) |use (?:\w+::)*[A-Z]\w*[a-z]\w*;$")
-ERROR = re.compile(r"^\S*/crates/(\w+)/(specs|proofs)/(\w+)\.antt:(\d+):\d+: error: (?:`([^`]+)`: )?(.*)$", re.M)
+KEPT = re.compile(r"(?:#\[.*\]\n)*(?:pub )?(?:struct|enum|type|mod) ")
+IMPORT = re.compile(r"use ((?:\w+::)*)(?:(\w+)|\{([^{}]*)\});")
+TYPE = re.compile(r"[A-Z]\w*[a-z]\w*")
+ERROR = re.compile(r"^crates/(\w+)/(specs|proofs)/(\w+)\.antt:(\d+):\d+: error: (?:`([^`]+)`: )?(.*)$", re.M)
 NOT_ADMITTED = "was not admitted"
+TACTICS = "#![tactic(auto)]"
 
 
 def items_of(code):
     """The items of a file of code: each ends with a `}` or a `;` at the line's start or end."""
     now = []
     for line in code.splitlines():
-        if not line.strip() or line.startswith("//"):
+        if not line.strip() or line.startswith("//") or line == TACTICS:
             continue
         now.append(line)
         if line == "}" or (not line.startswith(" ") and line.endswith((";", "}"))):
@@ -22,14 +25,25 @@ def items_of(code):
             now = []
 
 
+def kept_of(item):
+    """What is left of an item: a type, a module, the types of an import."""
+    imported = IMPORT.fullmatch(item)
+    if not imported:
+        return item if KEPT.match(item) else None
+    path, one, many = imported.groups()
+    types = [name for name in re.split(r"[,\s]+", one or many) if TYPE.fullmatch(name)]
+    return "use %s{%s};" % (path, ", ".join(types)) if types else None
+
+
 def types_alone(code):
     """The types of a file of code, the modules and the types that it uses."""
-    return "".join(item + "\n" for item in items_of(code) if KEPT.match(item))
+    head = TACTICS + "\n\n" if TACTICS in code else ""
+    return head + "".join(left + "\n" for left in map(kept_of, items_of(code)) if left)
 
 
 def speaks_of_code(crate, text):
     """Whether a file of theorems cites what the checker makes of a function."""
-    return re.search(r"^use Rattle·%s·proofs\.proofs\.[a-z]" % crate, text, re.M)
+    return re.search(r"^use Rattle\.%s\.proofs\.[a-z]" % crate, text, re.M)
 
 
 def files_of(crate, folder):
@@ -43,14 +57,21 @@ def files_of(crate, folder):
     return files
 
 
+def is_library(root, line):
+    """Whether a line of crates.txt is of a library for other crates."""
+    return (root / "crates" / line.split(":")[0] / "src" / "lib.rt").exists()
+
+
 class Stripped:
-    """The copy, in a folder that is kept, so that what has not changed since is not checked again."""
+    """The copy, in a folder that is kept, so that what has not changed since is not checked again. It is none of the checkout's: there `rt ci` refuses code that is in no crate."""
 
     def __init__(self, root, folder):
         self.folder = folder
-        lines = [line for line in (root / "crates.txt").read_text().splitlines() if (root / "crates" / line.split(":")[0] / "src" / "lib.rt").exists()]
+        self.accepted = set()
+        lines = [line for line in (root / "crates.txt").read_text().splitlines() if is_library(root, line)]
         self.needs = {line.split(":")[0]: line.split(":")[1].split() for line in lines}
-        shutil.rmtree(folder / "crates", ignore_errors=True)
+        for part in [part for part in folder.glob("crates/*/*") if part.name != "out"]:
+            shutil.rmtree(part)
         for crate in self.needs:
             for path, text in files_of(crate, root / "crates" / crate).items():
                 (folder / "crates" / crate / path).parent.mkdir(parents=True, exist_ok=True)
@@ -68,10 +89,31 @@ class Stripped:
                 found.append(name)
         return found[1:]
 
-    def rt(self, *words):
-        """What `rt` says, and whether all is accepted."""
-        ended = subprocess.run(["rt", *words], cwd=self.folder, env=dict(os.environ, RT_JOBS="1", RT_CUT="0"), stdout=subprocess.PIPE, stderr=subprocess.STDOUT, text=True)
-        return ended.stdout, ended.returncode
+    def below(self, crate):
+        """The crates that it builds on, each behind those that it uses."""
+        found = []
+        for name in self.needs[crate]:
+            if name in self.needs:
+                found += [one for one in [*self.below(name), name] if one not in found]
+        return found
+
+    def check(self, crates):
+        """What `rt check` says of these crates, and whether all are accepted; those above a refused one are left out."""
+        log, refused = "", []
+        for crate in crates:
+            if set(self.below(crate)) & set(refused):
+                continue
+            ended = subprocess.run(["rt", "check", "--jobs", "1"], cwd=self.folder / "crates" / crate, stdout=subprocess.PIPE, stderr=subprocess.STDOUT, text=True)
+            log += re.sub(r"^(?:\S*/)?(specs|proofs)/", r"crates/%s/\1/" % crate, ended.stdout, flags=re.M)
+            refused += [crate] if ended.returncode else []
+        return log, not refused
+
+    def accept(self, crates):
+        """Ends the run unless these are accepted as they stand; each is checked once."""
+        log, fine = self.check([crate for crate in crates if crate not in self.accepted])
+        if not fine:
+            sys.exit("mutants: the copy without code is not accepted as it stands:\n" + log[-2000:])
+        self.accepted.update(crates)
 
 
 def errors_of(log):
