@@ -1,7 +1,7 @@
 //! Reads a plan from standard input and prints each flow's verdict, or the refusal. Exit status: 0 accepted, 1 refused,
 //! 2 if standard input could not be read or standard output not be written.
 //!
-//!     rt staticlib analyser
+//!     bash -c '. tests/common/build.sh && build_archives'
 //!     rustc --edition 2021 -L target/staticlib -l static=analyser examples/analyse.rs -o target/analyse
 //!     target/analyse < plans/P.plan
 mod lingfallow;

@@ -3,7 +3,7 @@
  * 2 if a file could not be read or written, or standard output not be written. Behind a file that failed it goes on
  * with the next, behind a lost output it stops. Nothing else may write to the files meanwhile.
  *
- *     rt staticlib converter
+ *     bash -c '. tests/common/build.sh && build_archives'
  *     gcc -std=c11 -Iinclude examples/convert.c target/staticlib/libconverter.a -o target/convert
  *     target/convert FILE..
  */

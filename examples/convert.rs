@@ -4,7 +4,7 @@
 //! with the next, behind a lost output it stops; an output that is closed from the start is not told, since Rust puts
 //! /dev/null in its place. Nothing else may write to the files meanwhile.
 //!
-//!     rt staticlib converter
+//!     bash -c '. tests/common/build.sh && build_archives'
 //!     rustc --edition 2021 -L target/staticlib -l static=converter examples/convert.rs -o target/convert
 //!     target/convert FILE..
 mod lingfallow;

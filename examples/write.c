@@ -1,7 +1,7 @@
 /* Writes plan P, from its numbers, to standard output. Exit status: 0 written, 1 refused, 2 if standard
  * output could not be written.
  *
- *     rt staticlib writer
+ *     bash -c '. tests/common/build.sh && build_archives'
  *     gcc -std=c11 -Iinclude examples/write.c target/staticlib/libwriter.a -o target/write
  *     target/write | cmp - plans/P.plan
  */

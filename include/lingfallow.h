@@ -2,10 +2,9 @@
  * C99 and C++ on x86-64 Linux.
  *
  * For lingfallow_analyse link with libanalyser.a, for lingfallow_write with libwriter.a, for lingfallow_convert with
- * libconverter.a; `rt staticlib analyser`, `rt staticlib writer` and `rt staticlib converter` write them to
- * target/staticlib/. None needs another, and a program may link them all. docs/FORMAT.md has the formats with examples,
- * plans/ has plans in commented hex, and examples/analyse.c, examples/write.c and examples/convert.c are programs to
- * start from.
+ * libconverter.a; `bash -c '. tests/common/build.sh && build_archives'` writes them to target/staticlib/. None needs
+ * another, and a program may link them all. docs/FORMAT.md has the formats with examples, plans/ has plans in commented
+ * hex, and examples/analyse.c, examples/write.c and examples/convert.c are programs to start from.
  */
 #ifndef LINGFALLOW_H
 #define LINGFALLOW_H

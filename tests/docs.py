@@ -44,10 +44,11 @@ def uses_of_crates():
     uses = {}
     for user in CRATES:
         for text in FILES[user].values():
-            for named, function in re.findall(r"\b(\w+)::(?:\w+::)?(\w+)\b", text):
+            for named, one, many in re.findall(r"\b(\w+)::(?:\w+::)?(?:(\w+)\b|\{([^{}]*)\})", text):
                 crate = user if named == "crate" else named
                 if crate in CRATES:
-                    uses.setdefault((crate, function), set()).add(user)
+                    for function in re.findall(r"\w+", one or many):
+                        uses.setdefault((crate, function), set()).add(user)
     return uses
 
 

@@ -1,6 +1,6 @@
 #!/usr/bin/env bash
 # The plans of plans/: the program `bounds` prints of each what its .text has (tests/hex.py holds each to its hex). Of an
-# input that cannot be read it prints what docs/BOUNDS.md says, and the lines of shell there tell a lost output.
+# input that cannot be read and of a lost output it tells what docs/BOUNDS.md says, and so do the lines of shell there.
 set -euo pipefail
 cd "$(dirname "$0")/.."
 . tests/common/build.sh
@@ -22,6 +22,14 @@ script_exits() {
   [ "$status" = "$1" ] || fail "the script of docs/BOUNDS.md exits with $status, not $1, on $3 by $2"
 }
 
+# check_lost: a lost output is told on standard error and by the exit status
+check_lost() {
+  local status=0
+  "$bounds" <plans/P.plan >/dev/full 2>"$out/errors" || status=$?
+  [ "$status" = 1 ] || fail "$bounds exits with $status where its output is lost"
+  grep -q '^Error:' "$out/errors" || fail "$bounds does not tell that its output is lost"
+}
+
 build_bounds
 mkdir -p "$out"
 plans=0
@@ -34,6 +42,7 @@ for path in plans/*.plan; do
 done
 [ "$plans" -gt 0 ] || fail "plans/ has no plan"
 [ "$("$bounds" </)" = "refused 1 at 0" ] || fail "$bounds prints something else of an input that cannot be read"
+check_lost
 script_exits 0 "$bounds" P
 script_exits 1 "$bounds" buffer-65
 script_exits 2 true P
