@@ -21,6 +21,11 @@ def declarations_of(text):
     return found
 
 
+def opened(text):
+    """The file with what its modules hold as if it stood outside them."""
+    return re.sub(r"^module .* where\n((?:(?:  .*)?\n)+)", lambda module: re.sub(r"^  ", "", module[1], flags=re.M), text, flags=re.M)
+
+
 def laws_used(text):
     """The names that a file takes from proofs/."""
     return {name.strip() for names in re.findall(r"^use Rattle\.\w+\.proofs\.\S+?\.\{([^}]*)\}", text, re.M) for name in names.split(",")}
@@ -57,10 +62,19 @@ class Judge:
             return "example"
         return "theorem" if "%s.%s" % (file, name) in self.listed else "law"
 
+    def dependents(self, crate, part, file, cause):
+        """The declarations of a file that cite this one, or one that does."""
+        text = opened((self.folder / "crates" / crate / part / (file + ".antt")).read_text())
+        cited = {name: set(re.findall(r"[^\s(),;{}.]+", " ".join([statement, *bodies]))) - {name} for name, (statement, bodies) in declarations_of(text).items()}
+        found = {cause}
+        while more := {name for name, words in cited.items() if words & found} - found:
+            found |= more
+        return [name for name in cited if name in found - {cause}]
+
     def refusal(self, log, own):
         """What refuses, as (kind, crate, declaration): an example before a theorem before a law; `no mutant` if a definition itself is refused."""
         found = {}
-        for crate, part, file, name, only_depends in stripped.errors_of(log):
+        for crate, part, file, name, only_depends in stripped.errors_of(log, self.dependents):
             kind = self.kind(crate, part, file, name)
             if kind == "definition" and not only_depends:
                 return ("no mutant", own, "")

@@ -9,7 +9,7 @@ KEPT = re.compile(r"(?:#\[.*\]\n)*(?:pub )?(?:struct|enum|type|mod) ")
 IMPORT = re.compile(r"use ((?:\w+::)*)(?:(\w+)|\{([^{}]*)\});")
 TYPE = re.compile(r"[A-Z]\w*[a-z]\w*")
 ERROR = re.compile(r"^crates/(\w+)/(specs|proofs)/(\w+)\.antt:(\d+):\d+: error: (?:`([^`]+)`: )?(.*)$", re.M)
-NOT_ADMITTED = "was not admitted"
+DEPEND = re.compile(r"(\d+) declarations? that depends? on `([^`]+)`, which was (?:not admitted|rejected), w(?:as|ere) not checked: (.*)")
 TACTICS = "#![tactic(auto)]"
 
 
@@ -116,6 +116,17 @@ class Stripped:
         self.accepted.update(crates)
 
 
-def errors_of(log):
-    """(crate, part, file, declaration, whether it only depends on one that is refused) for each error of a log."""
-    return [(crate, part, file, name or "line " + line, NOT_ADMITTED in said) for crate, part, file, line, name, said in ERROR.findall(log)]
+def errors_of(log, dependents):
+    """(crate, part, file, declaration, whether it only depends on one that is refused) for each error of a log. Of those that depend on one the log names three:
+    `dependents` gives all of that file, by the one that they depend on."""
+    for crate, part, file, line, name, said in ERROR.findall(log):
+        depend = DEPEND.match(said)
+        if not depend:
+            yield crate, part, file, name or "line " + line, False
+            continue
+        count, cause, listed = depend.groups()
+        names = dependents(crate, part, file, cause)
+        if len(names) != int(count):
+            names = re.sub(r" \(via [^)]*\)| and \d+ more$", "", listed).split(", ")
+        for each in names:
+            yield crate, part, file, each, True
