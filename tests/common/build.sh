@@ -111,7 +111,7 @@ build_archives() {
 build_bounds() {
   if stale target/bin/bounds; then
     # Where it cannot run, as on another processor, it is built all the same.
-    if stale crates/bounds/out/bounds; then (cd crates/bounds && rt run </dev/null >/dev/null) || ! stale crates/bounds/out/bounds; fi
+    if stale crates/bounds/out/bounds && ! (cd crates/bounds && rt run </dev/null >/dev/null) && stale crates/bounds/out/bounds; then return 1; fi
     mkdir -p target/bin
     cp crates/bounds/out/bounds target/bin/bounds
   fi
