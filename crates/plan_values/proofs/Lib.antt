@@ -1,2 +1,3 @@
+mod Recording
 mod Examples
 pub mod Seventh
