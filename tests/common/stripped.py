@@ -43,7 +43,7 @@ def types_alone(code):
 
 def speaks_of_code(crate, text):
     """Whether a file of theorems cites what the checker makes of a function."""
-    return re.search(r"^use Rattle\.%s\.proofs\.[a-z]" % crate, text, re.M)
+    return re.search(r"^use Rattle\.%s\.(?:proofs|specs\.contracts)\.[a-z]" % crate, text, re.M)
 
 
 def files_of(crate, folder):
