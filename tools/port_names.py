@@ -1,7 +1,7 @@
 #!/usr/bin/env python3
 """Brings this repository's own definitions and lemmas to today's spelling: words in snake case, types and modules as they are.
 
-Run once, at the top, behind /opt/rattle/port/port.py. It renames what stands in specs/ and proofs/ (not the library's names, nor those
+Run once, at the top, behind the kit's port.py. It renames what stands in specs/ and proofs/ (not the library's names, nor those
 that Rattle makes in proofs/F/Proof.antt) and what cites it in clauses. With --list it prints each name, old and new, and changes nothing.
 """
 
