@@ -1,6 +1,6 @@
 #!/usr/bin/env python3
-"""Holds what callers and fitters read of the formats to the crates: to the reader's table, crates/plan_table/src/lib.rt, and to
-the reply's record.
+"""Holds what callers and fitters read of the formats to the crates: to the reader's table, crates/plan_table/src/lib.rt, to the
+faults and their numbers, crates/framing/src/returned.rt, and to the reply's record.
 
 The header's macros, its refusals and its pictures of plan and reply; docs/FORMAT.md's tables; the sizes of examples/lingfallow.rs; the
 lengths of plans/bytes; what the texts say of the methods, the house default and the conversion. The header's version is CHANGELOG.md's last, and its
@@ -13,18 +13,22 @@ import sys
 
 ROOT = pathlib.Path(__file__).resolve().parent.parent
 TABLE, LISTED = "crates/plan_table/src/lib.rt", "crates/plan_table/specs/Refusals.antt"
+FAULTS, NUMBERED = "crates/framing/src/returned.rt", "crates/framing/specs/Returned.antt"
 CHECKS, PROGRAM, REPLY = "crates/plan_checks/src/lib.rt", "crates/bounds/src/main.rt", "crates/reply/specs/Reply.antt"
-METHOD, LATENCY, CONVERTER = "crates/engine_costs/src/method.rt", "crates/model/specs/Latency.antt", "crates/converter/src/lib.rt"
+DEFAULT, LATENCY, CONVERTER = "crates/engine_costs/src/method.rt", "crates/model/specs/Latency.antt", "crates/converter/src/lib.rt"
+METHODS = "crates/model/src/lib.rt"
 HEADER, FORMAT, RUST, BYTES, CHANGES = "include/lingfallow.h", "docs/FORMAT.md", "examples/lingfallow.rs", "plans/bytes", "CHANGELOG.md"
 PRINTED, MEMORY = "docs/BOUNDS.md", "tests/memory.c"
-FILES = (TABLE, LISTED, CHECKS, PROGRAM, REPLY, METHOD, LATENCY, CONVERTER, HEADER, FORMAT, RUST, BYTES, CHANGES, PRINTED, MEMORY)
+FILES = (TABLE, LISTED, FAULTS, NUMBERED, CHECKS, PROGRAM, REPLY, METHODS, DEFAULT, LATENCY, CONVERTER, HEADER, FORMAT, RUST, BYTES, CHANGES, PRINTED, MEMORY)
 WIDTHS = {"One": 1, "Two": 2, "Four": 4}
 
 # `only_if`: the length that a record with this field has, where it may have another.
 Field = collections.namedtuple("Field", "record offset width name least limit most refusal only_if")
 ARM = re.compile(r"^ *Kind::(\w+)Record => (\w+)(?:\(told\))?,$", re.M)
 EITHER = r"fn {}\(told: u16\) -> u16\n.*\n{{\n    if told == (\d+) {{\n        return (\d+);\n    }}\n    (\d+)\n}}"
-LINE = re.compile(r"=> Field\(Width::(\w+), (\d+), Limit::(\w+)(?:\(([\d_]+)\))?, (\d+)\), // (.+)$", re.M)
+LINES = r"^const {}_FIELDS: \[Field; \d+\] = \[\n((?:    .*\n)+)\];$"
+LINE = re.compile(r"Field\(\s*Width::(\w+),\s+(\d+),\s+Limit::(\w+)(?:\(([\w:]+)\))?,\s+Fault::(\w+),?\s*\),(?: // (.+))?$", re.M)
+FULL = "matches!(kind, Kind::FlowRecord) && {} <= count"
 
 
 def number(digits):
@@ -50,7 +54,7 @@ def either_of(table, function):
 
 def lengths(table):
     """The lengths that each record may have: a number, or a function of the one it tells."""
-    body = table[table.index("fn body_length"):table.index("fn field_count")]
+    body = table[table.index("fn body_length"):table.index("const PLATFORM_FIELDS")]
     found = {kind: (int(length),) if length.isdigit() else either_of(table, length) for kind, length in ARM.findall(body)}
     if found.keys() != tags(table).keys():
         raise LookupError(f"{TABLE} has the lengths of {sorted(found)}")
@@ -62,24 +66,44 @@ def said(values):
 
 
 def tags(table):
-    return {kind: int(tag, 16) for tag, kind in re.findall(r"(0x\w\w) => Tag::Known\(Kind::(\w+)Record\)", table)}
+    return {kind: int(tag, 16) for tag, kind in re.findall(r"(0x\w\w) => Some\(Kind::(\w+)Record\)", table)}
 
 
-def fields(table):
-    """The table's lines, with the offset of each: the platform's up to its longest, then a flow's."""
-    found, left = [], [(kind, lengths(table)[kind][-1]) for kind in ("Platform", "Flow")]
-    offset = 3
-    for width, least, limit, most, refusal, name in LINE.findall(table):
-        if offset == 3 + left[0][1]:
-            left, offset = left[1:], 3
-        kind = left[0][0]
-        shortest, *longer = lengths(table)[kind]
+def numbers_of(texts):
+    """The number of each fault, by the enum, which must be the definition's."""
+    numbers = {name: int(n) for name, n in re.findall(r"^    (\w+) = (\d+),$", texts[FAULTS], re.M)}
+    defined = {name: int(n) for name, n in re.findall(r"^number_of (\w+) = (\d+)(?: |$)", texts[NUMBERED], re.M)}
+    if numbers != defined or not numbers:
+        raise LookupError(f"{FAULTS} has the numbers {numbers}, and {NUMBERED} has {defined}")
+    return numbers
+
+
+def words(name):
+    """A fault's name as words, for a field that is named by it."""
+    return re.sub(r"(?<!^)(?=[A-Z])", " ", name).lower()
+
+
+def fields_of_record(texts, kind):
+    """The lines of a record's table, which its longest record has, with the offset of each."""
+    numbers, found, offset = numbers_of(texts), [], 3
+    shortest, *longer = lengths(texts[TABLE])[kind]
+    lines = only(LINES.format(kind.upper()), texts[TABLE])
+    for width, least, limit, most, fault, name in LINE.findall(lines):
         only_if = longer[-1] if offset >= 3 + shortest else None
-        found.append(Field(kind, offset, WIDTHS[width], name, int(least), limit, number(most or "0"), int(refusal), only_if))
+        most = numbers[most.split("::")[1]] if "::" in most else number(most or "0")
+        found.append(Field(kind, offset, WIDTHS[width], name or words(fault), int(least), limit, most, numbers[fault], only_if))
         offset += WIDTHS[width]
-    if len(left) != 1 or offset != 3 + left[0][1]:
-        raise LookupError(f"the fields of {TABLE} do not fill its records")
+    if offset != 3 + (longer[-1] if longer else shortest) or len(found) != lines.count("Field("):
+        raise LookupError(f"the fields of {TABLE} do not fill its {kind.lower()} record")
     return found
+
+
+def fields(texts):
+    """The platform's fields, and then a flow's; which table is whose."""
+    if re.findall(r"Kind::(\w+)Record => &(\w+)_FIELDS(?:\[\.\.usize::from\((\w+)\(told\)\)\])?,$", texts[TABLE], re.M) != [
+            ("Platform", "PLATFORM", "six_or_seven"), ("Flow", "FLOW", "")]:
+        raise LookupError(f"{TABLE}: fields_of lends other tables")
+    return [field for kind in ("Platform", "Flow") for field in fields_of_record(texts, kind)]
 
 
 def allowed(field):
@@ -116,8 +140,8 @@ def reply_rows(texts):
 
 def faults_of_macros(texts):
     """The limits: a LEAST where it is not 0, a MOST where it is a number, and no others."""
-    expected = {"MOST_FLOWS": int(only(r"Kind::FlowRecord => (\d+) <= count", texts[CHECKS]))}
-    for field in fields(texts[TABLE]):
+    expected = {"MOST_FLOWS": int(only(re.escape(FULL).replace(r"\{\}", r"(\d+)"), texts[CHECKS]))}
+    for field in fields(texts):
         name = field.name.upper().replace(" ", "_")
         if field.least > 0:
             expected[f"LEAST_{name}"] = field.least
@@ -132,9 +156,11 @@ def faults_of_refusals(texts):
     """The enum has the numbers that are listed, and each field's under the field's name."""
     found = {name: int(value) for name, value in re.findall(r"LINGFALLOW_REFUSED_(\w+) = (\d+)", texts[HEADER])}
     faults = [f"{HEADER}: REFUSED_{name} is {found.get(name)}, not {value}"
-              for field in fields(texts[TABLE]) for name, value in refusals_of(field).items() if found.get(name) != value]
+              for field in fields(texts) for name, value in refusals_of(field).items() if found.get(name) != value]
     if sorted(found.values()) != sorted(n for n, _ in listed(texts)):
         faults.append(f"{HEADER}: the refusals are {sorted(found.values())}")
+    if sorted(numbers_of(texts).values()) != sorted(n for n, _ in listed(texts)):
+        faults.append(f"{FAULTS}: the refusals are {sorted(numbers_of(texts).values())}")
     return faults
 
 
@@ -154,7 +180,7 @@ def picture_rows(texts):
 
 def faults_of_picture(texts):
     rows = list(picture_rows(texts))
-    expected = [(f.record, f.offset, f.width, f.name + (f", if the length is {f.only_if}" if f.only_if else "")) for f in fields(texts[TABLE])]
+    expected = [(f.record, f.offset, f.width, f.name + (f", if the length is {f.only_if}" if f.only_if else "")) for f in fields(texts)]
     for record, all_lengths in lengths(texts[TABLE]).items():
         if record != "End":
             expected += [(record, 0, 1, f"tag: {tags(texts[TABLE])[record]:02X} hex"), (record, 1, 2, f"length of what follows: {said(all_lengths)}")]
@@ -168,7 +194,7 @@ def faults_of_format(texts):
     faults = []
     plain = re.sub(r"(?<=\d),(?=\d)", "", texts[FORMAT])
     rows = [[cell.strip() for cell in line.strip("|").split("|")] for line in plain.split("\n") if line.startswith("| ")]
-    for field in fields(texts[TABLE]):
+    for field in fields(texts):
         words = [str(field.offset), str(field.width), field.name]
         numbers = set(refusals_of(field).values())
         only_if = f"only if the length is {field.only_if}" if field.only_if else ""
@@ -207,7 +233,7 @@ def faults_of_reply(texts):
 def sizes(texts):
     offset, width, _ = reply_rows(texts)[-1]
     record = offset + width
-    flows = int(only(r"Kind::FlowRecord => (\d+) <= count", texts[CHECKS]))
+    flows = int(only(re.escape(FULL).replace(r"\{\}", r"(\d+)"), texts[CHECKS]))
     longest = {kind: 3 + all_lengths[-1] for kind, all_lengths in lengths(texts[TABLE]).items()}
     plan = longest["Platform"] + flows * longest["Flow"] + longest["End"]
     return {"MOST_FLOWS": flows, "LONGEST_PLAN": plan, "LONGEST_REPLY": record * flows + 3, "FLOW_RECORD": record,
@@ -237,12 +263,14 @@ def faults_of_absent(texts, sentences):
 
 
 def methods(texts):
-    """The number of each method and the house default, by the engine, which must be the definition's."""
-    numbers = {name: int(digit) for digit, name in re.findall(r"(\d) => Method::(\w+),", texts[METHOD])}
-    default = only(r"fn house_default\(\) -> Method\n.*\n{\n    Method::(\w+)\n}", texts[METHOD])
+    """The number of each method and the house default, by the code, both ways, which must be the definition's."""
+    enum = only(r"^pub enum Method {\n((?:    .*\n)+)}$", texts[METHODS])
+    given = {name: int(digit) for name, digit in re.findall(r"(\w+) = (\d),", enum)}
+    numbers = {name: int(digit) for digit, name in re.findall(r"(\d) => Ok\(Method::(\w+)\),", texts[METHODS])}
+    default = only(r"fn house_default\(\) -> Method\n.*\n{\n    Method::(\w+)\n}", texts[DEFAULT])
     defined = {name: int(digit) for name, digit in re.findall(r"^method_number (\w+) = (\d)$", texts[LATENCY], re.M)}
-    if numbers != defined or default != only(r"^house_default = (\w+)$", texts[LATENCY]):
-        raise LookupError(f"{METHOD} has {numbers} and by default {default}, and {LATENCY} has not")
+    if not numbers == given == defined or default != only(r"^house_default = (\w+)$", texts[LATENCY]):
+        raise LookupError(f"{METHODS} has {given} and {numbers}, {DEFAULT} by default {default}, and {LATENCY} has not")
     return numbers, default
 
 
@@ -261,7 +289,7 @@ def faults_of_conversion(texts):
     """The byte that is rewritten is the table's method, and both texts say which, from what and to what; what it was is the method of that number."""
     place = int(only(r"^const METHOD: usize = (\d+);$", texts[CONVERTER]))
     old, new = map(int, only(r"if plan\[METHOD\] == (\d+) {\n *plan\[METHOD\] = (\d+);\n", texts[CONVERTER]))
-    offset = next(field.offset for field in fields(texts[TABLE]) if field.name == "method")
+    offset = next(field.offset for field in fields(texts) if field.name == "method")
     before = next((name for name, number in methods(texts)[0].items() if number == new), None)
     faults = [] if place == offset else [f"{CONVERTER}: writes at {place}, and the method is at {offset}"]
     return faults + faults_of_absent(texts, [
@@ -297,19 +325,24 @@ def faults_of(texts):
 # ---- faults that must be found: file, what stands there, what is planted
 
 PLANTED = [
-    (TABLE, "Limit::UpTo(16), 22", "Limit::UpTo(32), 22"),
-    (TABLE, "1, Limit::UpTo(65535), 34", "0, Limit::UpTo(65535), 34"),
-    (TABLE, "Width::Two, 1, Limit::UpTo(65535), 34", "Width::Four, 1, Limit::UpTo(65535), 34"),
-    (TABLE, "Limit::UpToPeriod(38), 36", "Limit::UpToPeriod(36), 38"),
+    (TABLE, "Limit::UpTo(16), Fault::LinkCycles", "Limit::UpTo(32), Fault::LinkCycles"),
+    (TABLE, "1, Limit::UpTo(65535), Fault::Flits", "0, Limit::UpTo(65535), Fault::Flits"),
+    (TABLE, "Width::Two, 1, Limit::UpTo(65535), Fault::Flits", "Width::Four, 1, Limit::UpTo(65535), Fault::Flits"),
+    (TABLE, "Limit::UpToPeriod(Fault::DeadlineAbovePeriod),\n        Fault::DeadlineZero", "Limit::UpToPeriod(Fault::DeadlineZero),\n        Fault::DeadlineAbovePeriod"),
     (TABLE, "Kind::PlatformRecord => six_or_seven(told),\n        Kind::FlowRecord => 20", "Kind::PlatformRecord => 7,\n        Kind::FlowRecord => 20"),
     (TABLE, "Kind::PlatformRecord => six_or_seven(told),\n        Kind::FlowRecord => 20", "Kind::PlatformRecord => 6,\n        Kind::FlowRecord => 20"),
     (TABLE, "        Kind::FlowRecord => 20,", "        Kind::FlowRecord => six_or_seven(told),"),
     (TABLE, "told == 7 {\n        return 7", "told == 8 {\n        return 8"),
     (TABLE, "told == 7 {\n        return 7", "told == 8 {\n        return 7"),
     (TABLE, "    }\n    6\n}", "    }\n    5\n}"),
-    (TABLE, "Limit::UpTo(8), 26", "Limit::UpTo(9), 26"),
-    (TABLE, "1, Limit::UpTo(8), 26", "0, Limit::UpTo(8), 26"),
-    (CHECKS, "Kind::FlowRecord => 64 <= count", "Kind::FlowRecord => 65 <= count"),
+    (TABLE, "Limit::UpTo(8), Fault::PriorityFlits", "Limit::UpTo(9), Fault::PriorityFlits"),
+    (TABLE, "1, Limit::UpTo(8), Fault::PriorityFlits", "0, Limit::UpTo(8), Fault::PriorityFlits"),
+    (TABLE, "Limit::UpTo(16), Fault::RoutingCycles", "Limit::UpTo(16), Fault::LinkCycles"),
+    (TABLE, "=> &FLOW_FIELDS", "=> &PLATFORM_FIELDS"),
+    (TABLE, "&PLATFORM_FIELDS[..usize::from(six_or_seven(told))]", "&PLATFORM_FIELDS"),
+    (FAULTS, "    Source = 32,", "    Source = 39,"),
+    (NUMBERED, "number_of Source = 32", "number_of Source = 39"),
+    (CHECKS, FULL.format(64), FULL.format(65)),
     (PROGRAM, "[0u8; 2048]", "[0u8; 1024]"),
     (HEADER, "MOST_LINK_CYCLES 16", "MOST_LINK_CYCLES 32"),
     (HEADER, "#define LINGFALLOW_LEAST_FLITS 1\n", ""),
@@ -355,8 +388,9 @@ PLANTED = [
     (BYTES, '("platform", (6, 7))', '("platform", (6,))'),
     (BYTES, '("platform", (6, 7))', '("platform", (6, 7, 8))'),
     (CHANGES, "## 0.8.0 ", "## 0.9.0 "),
-    (METHOD, "    Method::IBN\n}", "    Method::XLWX\n}"),
-    (METHOD, "1 => Method::SB", "1 => Method::XLWX"),
+    (DEFAULT, "    Method::IBN\n}", "    Method::XLWX\n}"),
+    (METHODS, "1 => Ok(Method::SB)", "1 => Ok(Method::XLWX)"),
+    (METHODS, "    IBN = 3,", "    IBN = 4,"),
     (LATENCY, "house_default = IBN", "house_default = XLWX"),
     (LATENCY, "method_number IBN = 3", "method_number IBN = 2"),
     (HEADER, "METHOD_XLWX 2", "METHOD_XLWX 1"),
@@ -394,7 +428,7 @@ def main():
         print(f"header: {fault}", file=sys.stderr)
     if faults:
         sys.exit(1)
-    print(f"header: {len(fields(texts[TABLE]))} fields and {len(listed(texts))} refusals as the reader has them; {len(PLANTED)} planted faults found")
+    print(f"header: {len(fields(texts))} fields and {len(listed(texts))} refusals as the reader has them; {len(PLANTED)} planted faults found")
 
 
 if __name__ == "__main__":

@@ -64,7 +64,7 @@ def faults_of(text, rule, judge):
         faults += ["%s: %s" % (definition, fault) for fault in faults_of_refuser(judge, by)]
     for definition, reasons in equal_mutants.REASONS.items():
         faults += ["%s, equal in meaning: the rule does not make %s" % (definition, change) for change in reasons if change not in rule.get(definition, set())]
-    return faults
+    return faults + ["%s, without a mutant: the rule changes nothing of it" % definition for definition in equal_mutants.NO_MUTANT if definition not in rule]
 
 
 # Something of the list, and what makes it untrue: a definition left out, another change, a law of a proof, a theorem that computes nothing, one that is no theorem of docs/THEOREMS.md.

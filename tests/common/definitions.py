@@ -5,8 +5,9 @@ What is mutated is the right side of an equation, the type of a record's field a
 import re
 from dataclasses import dataclass, field
 
-# The crates whose definitions are changed.
-CRATES = ["plan_values", "plan_table", "plan_checks", "plan", "writer_bytes", "writer", "mesh", "recurrence", "model", "reply", "converter", "lines_items", "lines_mesh", "lines_flow", "lines"]
+# The crates whose definitions are changed; of framing the numbers of what sends a plan back, which those of the plan go by.
+CRATES = ["framing", "plan_values", "plan_table", "plan_checks", "plan", "writer_bytes", "writer", "mesh", "recurrence", "model", "reply", "converter", "lines_items", "lines_mesh", "lines_flow", "lines"]
+OF_CRATE = {"framing": ["Returned.number_of"]}
 
 # A word ends where a projection begins: `p.method` is `p` and `.method`.
 TOKEN = re.compile(r"--[^\n]*|\s+|[(){}\[\];,]|\.[\w«][^\s(){}\[\];,.]*|(?:[^\s(){}\[\];,.]|\.(?![\w«]))+")
@@ -17,6 +18,12 @@ OPERATORS = set("+ - * / % ^ ∷ ++ && || ≡ ≢ < ≤ × ⊎ → ↔ ↦ ÷ = 
 SEPARATORS = set("= : | , ; ↦ when else then in let elim × ⊎ → ↔ λ ⌈ ÷ ⌉".split())
 OPENING, CLOSING = "([{", ")]}"
 PROJECTED = "p.f"  # the text of a group that is no brackets
+
+# What sends a plan back, in the order of the numbers.
+FAULTS = (
+    "Cut UnknownTag WrongLength Misplaced FlowTooMany IdTaken PriorityTaken EndsEqual ByteAfterEnd BufferTooShort Columns Rows LinkCycles RoutingCycles BufferFlits Method PriorityFlits "
+    "Id Priority Source Destination Flits Period DeadlineZero Jitter DeadlineAbovePeriod"
+).split()
 
 # One word for another, by kind. A choice that does not fit the types makes no mutant.
 WORDS = {
@@ -29,6 +36,7 @@ WORDS = {
         "one_at": ["two_at"], "two_at": ["one_at"], "four_at": ["two_at"], "two_bytes": ["four_bytes"], "four_bytes": ["two_bytes"],
         "IsPlatform": ["IsFlow"], "IsFlow": ["IsEnd"], "IsEnd": ["IsPlatform"],
     },
+    "fault": {fault: [following] for fault, following in zip(FAULTS, FAULTS[1:] + FAULTS[:1])},
     "field": {
         ".columns": [".rows"], ".rows": [".columns"], ".link": [".routing"], ".routing": [".buffer"], ".buffer": [".link"], ".method": [".buffer"], ".priority_flits": [".method"],
         ".id": [".priority"], ".priority": [".id"], ".source": [".destination"], ".destination": [".source"], ".flits": [".period"],
@@ -42,6 +50,7 @@ MODULES = {
     "Rattle.std.specs.Prelude": ["ltb", "leb", "◌+◌", "◌-◌", "◌/◌", "◌%◌", "◌<◌", "◌≤◌", "max", "true", "false", "◌&&◌", "◌||◌", "◌≡◌"],
     "Rattle.framing_numbers.specs.Numbers": ["one_at", "two_at"], "Rattle.framing.specs.BigEndian": ["two_bytes", "four_bytes"],
     "Rattle.framing_numbers.specs.declared.Width.TheVariants": ["Two", "Four"],
+    "Rattle.framing.specs.declared.returned.Fault.TheVariants": FAULTS,
     "Rattle.plan_table.specs.declared.Kind.TheVariants": ["PlatformRecord", "FlowRecord", "EndRecord"],
     "Rattle.model.specs.declared.Method.TheVariants": ["SB", "XLWX", "IBN"],
 }
@@ -421,6 +430,9 @@ def mutants_of(crate, files, signatures):
     """The mutants of a crate, in a list for each definition and kind: files is {name: text} of its specs/."""
     for file, text in files.items():
         for definition in definitions_of(file, text):
+            named = "%s.%s" % (file, definition.name)
+            if named not in OF_CRATE.get(crate, [named]):
+                continue
             by_kind = {}
             for kind, change, changed, brought in distinct(text, changes_of(text, definition, signatures)):
                 by_kind.setdefault(kind, []).append(Mutant(crate, file, definition.name, kind, change, imported(changed, brought)))

@@ -17,10 +17,10 @@ REASONS = {
     "plan_table Refusals.record_refusals": {"`(1, 0)` ↔ `(2, 0)`": ORDER_OF_LINES},
     "plan_table Refusals.platform_refusals": {"`(20, 3)` ↔ `(21, 4)`": ORDER_OF_LINES},
     "plan_table Refusals.flow_refusals": {"`(7, 3)` ↔ `(8, 5)`": ORDER_OF_LINES},
-    "plan_table Table.tag_of": {"`Known PlatformRecord when eqb byte 0x01` ↔ `Known FlowRecord when eqb byte 0x02`": APART},
-    "plan_table Table.no_field": {"`, 0,` → `, 1,`": NEVER_READ, "`(One,` → `(Two,`": NEVER_READ},
+    "plan_table Table.tag_of": {"`Some PlatformRecord when eqb byte 0x01` ↔ `Some FlowRecord when eqb byte 0x02`": APART},
+    "plan_table Table.no_field": {"`, 0,` → `, 1,`": NEVER_READ, "`(One,` → `(Two,`": NEVER_READ, "`, Cut)` → `, UnknownTag)`": NEVER_READ},
     "plan_checks Checks.header_at": {"`(eqb at` → `(leb at`": NOT_ABOVE},
-    "plan Reading.records": {"`refused 1 at` → `refused 2 at`": TURNS, "`1 at` → `1 zero`": TURNS, "`1` ↔ `at`": TURNS},
+    "plan Reading.records": {"`refused Cut at` → `refused UnknownTag at`": TURNS, "`Cut at` → `Cut zero`": TURNS},
     "plan Reading.read_plan": {"`(suc (` → `( (`": "a turn takes 3 bytes, so that one turn less is enough; of no bytes both say 1 at 0"},
     "writer Fits.FitsEach": {"`k < length` → `k ≤ length`": "behind the list stands a blank flow, whose zeros fit"},
     "mesh Mesh.along": {"`hops (λ k. up (u + k)) (v - u)` ↔ `hops (λ k. down (u - k)) (u - v)`": "one of the two stretches is empty"},
@@ -60,6 +60,6 @@ REASONS = {
 }
 
 NO_MUTANT = {
-    "plan_table Table.width", "plan_table Table.lowest_of", "plan_table Table.highest_of", "plan_table Table.refusal_above", "plan Reading.plan_of", "plan Reading.accepted",
-    "recurrence Columns.held_terms", "recurrence Limits.AllFair", "model Interference.those",
+    "plan_table Table.width", "plan_table Table.lowest_of", "plan_table Table.highest_of", "plan_table Table.refusal_above", "plan Reading.plan_of", "plan Reading.plan_in", "plan Records.◌then◌",
+    "recurrence Limits.AllFair", "recurrence Sums.sum_over", "model Interference.those", "model Bounds.bound_of",
 }

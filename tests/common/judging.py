@@ -27,8 +27,8 @@ def opened(text):
 
 
 def laws_used(text):
-    """The names that a file takes from proofs/."""
-    return {name.strip() for names in re.findall(r"^use Rattle\.\w+\.proofs\.\S+?\.\{([^}]*)\}", text, re.M) for name in names.split(",")}
+    """The names that a file takes from proofs/, but for the library's, which speak of no definition."""
+    return {name.strip() for names in re.findall(r"^use Rattle\.(?!std\.)\w+\.proofs\.\S+?\.\{([^}]*)\}", text, re.M) for name in names.split(",")}
 
 
 def is_example(statement, bodies, laws):

@@ -1,13 +1,19 @@
-"""A copy of the crates without their code: types, definitions, laws, theorems and computed examples are left. What is refused there is refused whatever any code says."""
+"""A copy of the crates without their code: types, definitions, laws, theorems and computed examples are left. What is refused there is refused whatever any code says.
+
+A type is left as clauses see it: with its ghost fields, with the numbers of its variants, and with its `impl Model`, which gives it another meaning; without derives, which are code."""
 import pathlib
 import re
 import shutil
 import subprocess
 import sys
 
-KEPT = re.compile(r"(?:#\[.*\]\n)*(?:pub )?(?:struct|enum|type|mod) ")
-IMPORT = re.compile(r"use ((?:\w+::)*)(?:(\w+)|\{([^{}]*)\});")
+KEPT = re.compile(r"(?:#\[.*\]\n)*(?:(?:pub )?(?:struct|enum|type|mod) |impl\b.* Model for )")
+IMPORT = re.compile(r"(pub )?(use (?:\w+::)*)(?:(\w+)|\{([^{}]*)\});")
+GHOST_IMPORT = re.compile(r"(ghost use [\w.]+\.)\{([^{}]*)\};")
+GHOST = re.compile(r"^    ghost ", re.M)
+DERIVE = re.compile(r"^#\[derive\(.*\)\]\n", re.M)
 TYPE = re.compile(r"[A-Z]\w*[a-z]\w*")
+WORD = re.compile(r"[^\s(){},;]+")
 ERROR = re.compile(r"^crates/(\w+)/(specs|proofs)/(\w+)\.antt:(\d+):\d+: error: (?:`([^`]+)`: )?(.*)$", re.M)
 DEPEND = re.compile(r"(\d+) declarations? that depends? on `([^`]+)`, which was (?:not admitted|rejected), w(?:as|ere) not checked: (.*)")
 TACTICS = "#![tactic(auto)]"
@@ -26,24 +32,38 @@ def items_of(code):
 
 
 def kept_of(item):
-    """What is left of an item: a type, a module, the types of an import."""
-    imported = IMPORT.fullmatch(item)
-    if not imported:
-        return item if KEPT.match(item) else None
-    path, one, many = imported.groups()
-    types = [name for name in re.split(r"[,\s]+", one or many) if TYPE.fullmatch(name)]
-    return "use %s{%s};" % (path, ", ".join(types)) if types else None
+    """What is left of an item: a type, what gives it its meaning, a module."""
+    return DERIVE.sub("", item) if KEPT.match(item) else None
+
+
+def import_of(item, used):
+    """What is left of an import: the types that are used, or that are handed on."""
+    handed_on, path, one, many = IMPORT.fullmatch(item).groups()
+    types = [name for name in re.split(r"[,\s]+", one or many) if TYPE.fullmatch(name) and (handed_on or name in used)]
+    return "%s%s{%s};" % (handed_on or "", path, ", ".join(types)) if types else None
+
+
+def ghost_import_of(item, used):
+    """What is left of an import of definitions: those that are used."""
+    path, names = GHOST_IMPORT.fullmatch(item).groups()
+    left = [name for name in re.split(r"[,\s]+", names) if name and set(name.strip("◌").split("◌")) <= used]
+    return "%s{%s};" % (path, ", ".join(left)) if left else None
 
 
 def types_alone(code):
-    """The types of a file of code, the modules and the types that it uses."""
+    """The types of a file of code, with what they mean in clauses; the modules and the types that it uses."""
     head = TACTICS + "\n\n" if TACTICS in code else ""
-    return head + "".join(left + "\n" for left in map(kept_of, items_of(code)) if left)
+    items = list(items_of(code))
+    kept = [left for left in map(kept_of, items) if left]
+    used = set(re.findall(r"\w+", " ".join(kept)))
+    ghosts = {word for item in kept if GHOST.search(item) for word in WORD.findall(item)}
+    imports = [ghost_import_of(item, ghosts) for item in items if GHOST_IMPORT.fullmatch(item)] + [import_of(item, used) for item in items if IMPORT.fullmatch(item)]
+    return head + "".join(left + "\n" for left in [*filter(None, imports), *kept])
 
 
 def speaks_of_code(crate, text):
     """Whether a file of theorems cites what the checker makes of a function."""
-    return re.search(r"^use Rattle\.%s\.(?:proofs|specs\.contracts)\.[a-z]" % crate, text, re.M)
+    return re.search(r"^use Rattle\.%s\.(?:proofs|specs\.contracts)\.(?:[A-Z]\w*\.)?[a-z]" % crate, text, re.M)
 
 
 def files_of(crate, folder):

@@ -1,15 +1,18 @@
 -- What is returned and left where the bytes are a plan, and that no other right answers make another reply.
 use Prim.Native.Nat.{ℕ, suc, ◌+◌, ◌*◌, ◌^◌, ◌≤◌, ◌<◌}
-use mathlib.Core.Path.{◌≡◌, refl, sym, ◌∙◌}
+use mathlib.Core.Path.{◌≡◌, refl, ◌∙◌}
 use mathlib.Core.List.{List, [], ◌∷◌, ◌++◌}
 use native.Mathlib.Omega.{arith}
 use lib.ListN.{length, drop, get_or, length-append, length-drop, length-map}
 use lib.Seq.{drop_at}
-use Rattle.framing.specs.Returned.{refused_with, accepted_with}
+use Rattle.framing.specs.Returned.{number_of, refused_with, accepted_with}
+use Rattle.framing.specs.declared.returned.Fault.{Fault}
 use Rattle.plan_values.specs.declared.Platform.{Platform}
 use Rattle.plan_values.specs.declared.Flow.{Flow}
 use Rattle.plan.specs.Legal.{LegalFlow, Legal, flow}
 use Rattle.plan.specs.Reading.{accepted, refused, read_plan}
+use Rattle.plan.specs.Reasons.{RefusedBecause}
+use Rattle.plan.proofs.Because.{refused_for}
 use Rattle.plan.proofs.Exact.{legal}
 use Rattle.model.specs.declared.Verdict.{Verdict}
 use Rattle.model.specs.declared.Verdict.TheVariants.{Bounded, Late, Waits}
@@ -27,18 +30,23 @@ use Rattle.analyser.specs.Records.{answer_lines, Holds}
 use Rattle.analyser.proofs.Replying.{Replied, replied_refused, replied_short, replied_analysed}
 
 module _ (bytes held : List ℕ) where
-  pub refused_returned : {number place : ℕ} → read_plan bytes ≡ refused number place → Replied bytes held (refused_with number place) held
+  pub refused_returned : (fault : Fault) (place : ℕ) → read_plan bytes ≡ refused fault place → Replied bytes held (refused_with (number_of fault) place) held
   unfolding refused
-  refused_returned e = replied_refused bytes held (sym e) refl
+  refused_returned fault place e = replied_refused bytes held e
+
+  pub reason_returned : (number place : ℕ) → RefusedBecause bytes number place → Replied bytes held (refused_with number place) held
+  reason_returned number place w =
+      let (fault, n, e) = refused_for bytes number place w in
+      rw n at (refused_returned fault place e)
 
   module _ (p : Platform) (fs : List Flow) (e : read_plan bytes ≡ accepted p fs) where
     pub short_returned : length held < 16 * length fs + 3 → Replied bytes held (refused_with 11 0) held
     unfolding accepted
-    short_returned h = replied_short bytes held (sym e) refl h
+    short_returned h = replied_short bytes held e h
 
     pub reply_returned : 16 * length fs + 3 ≤ length held → Replied bytes held (accepted_with (16 * length fs + 3)) (reply_bytes (answers p fs) ++ drop (16 * length fs + 3) held)
     unfolding accepted
-    reply_returned h = rw (plan_flows fs) at (replied_analysed bytes held (sym e) refl h)
+    reply_returned h = rw (plan_flows fs) at (replied_analysed bytes held e h)
 
 -- Answers that agree on the flows of a plan have the same lines.
 same_lines : (fs : List Flow) (f g : Flow → Verdict) → ((k : ℕ) → k < length fs → f (flow fs k) ≡ g (flow fs k)) → answer_lines fs f ≡ answer_lines fs g

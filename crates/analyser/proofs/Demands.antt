@@ -14,11 +14,13 @@ use native.Mathlib.Omega.{arith}
 use lib.ListN.{length, take, drop}
 use Rattle.framing.specs.Header.{length_at, Headed}
 use Rattle.framing_numbers.specs.Numbers.{Bytes}
-use Rattle.framing.specs.Returned.{refused_with, accepted_with}
+use Rattle.std.specs.Prelude.{Result}
+use Rattle.framing.specs.Returned.{number_of, refused_with, accepted_with}
+use Rattle.framing.specs.declared.returned.Refusal.{Refusal}
 use Rattle.framing.specs.declared.returned.Returned.{Returned}
 use Rattle.plan_values.specs.declared.Platform.{Platform}
 use Rattle.plan_values.specs.declared.Flow.{Flow}
-use Rattle.plan.specs.declared.Reading.{Reading}
+use Rattle.plan.specs.declared.Plan.{Plan}
 use Rattle.plan.specs.Legal.{Legal, flow}
 use Rattle.plan.specs.Layout.{Laid}
 use Rattle.plan.specs.Refusals.{Listed}
@@ -47,7 +49,7 @@ use Rattle.analyser.specs.Records.{answer_lines, Holds}
 use Rattle.analyser.proofs.Replying.{Replied}
 use Rattle.analyser.proofs.Telling.{tells_bounded, tells_rounds, tells_late, tells_waits, tells_names, tells_only}
 use Rattle.analyser.proofs.Bytes.{same_buffer, reply_bytes_lem}
-use Rattle.analyser.proofs.Deciding.{refused_returned, short_returned, reply_returned, right_lines, held_reply}
+use Rattle.analyser.proofs.Deciding.{refused_returned, reason_returned, short_returned, reply_returned, right_lines, held_reply}
 
 -- ==== demand 1: what an offer comes to, which is what is returned and what the buffer holds then
 -- The bytes are a plan, and the buffer has room for its reply.
@@ -124,9 +126,9 @@ module _ (bytes held : List ℕ) where
           (rw (← right_lines p fs legal (verdict p fs) (right p fs)) at (reply_returned bytes held p fs e (omega arith)))
           (analysed (record { laid = laid; legal = legal; room = omega arith }) (verdict p fs) (right p fs))
 
-      go : (r : Reading) → read_plan bytes ≡ r → Lawful bytes r → Offered bytes held (returned bytes (length held)) (left bytes held)
+      go : (r : Result Plan Refusal) → read_plan bytes ≡ r → Lawful bytes r → Offered bytes held (returned bytes (length held)) (left bytes held)
       go r e (accepts p fs laid legal) = by_room p fs laid legal e (dec_lt (length held) (16 * length fs + 3))
-      go r e (refuses number place n h) = settled (refused_returned bytes held e) (sent_back number place ((refused_exactly bytes number place).0 e) n h)
+      go r e (refuses fault place n h) = settled (refused_returned bytes held fault place e) (sent_back (number_of fault) place ((refused_exactly bytes fault place).0 e) n h)
 
   module _ {p : Platform} {fs : List Flow} (f : Fine bytes held p fs) where
     is_plan : read_plan bytes ≡ accepted p fs
@@ -234,7 +236,7 @@ module _ (bytes held : List ℕ) where
 
   -- .. and of the plan itself a refusal is given exactly for the first line of the table that holds of the first record in fault; 11 is the buffer's.
   pub refusal_exactly : (number place : ℕ) → number ≢ 0 → number ≢ 11 → (returned bytes (length held) ≡ refused_with number place) ↔ RefusedBecause bytes number place
-  refusal_exactly number place not_0 not_11 = (go demand_1, λ w. sym (refused_returned bytes held ((refused_exactly bytes number place).1 w)).0)
+  refusal_exactly number place not_0 not_11 = (go demand_1, λ w. sym (reason_returned bytes held number place w).0)
     where
       go : {r : Returned} {is : List ℕ} → Offered bytes held r is → r ≡ refused_with number place → RefusedBecause bytes number place
       go (analysed f answer right) e = absurd (not_0 (sym (ap (λ (r : Returned). r.number) e)))
@@ -250,7 +252,7 @@ module _ (bytes held : List ℕ) where
     where
       go : {r : Returned} {is : List ℕ} → Offered bytes held r is → Replied bytes held r is
       go (analysed {p} {fs} f answer right) = rw (right_lines p fs f.legal answer right) (replies f)
-      go (sent_back number place w n h) = refused_returned bytes held ((refused_exactly bytes number place).1 w)
+      go (sent_back number place w n h) = reason_returned bytes held number place w
       go (too_short p fs laid legal h) = short_returned bytes held p fs ((accepted_exactly bytes p fs).1 (laid, legal)) h
 
   -- "two results allowed for one input coincide"

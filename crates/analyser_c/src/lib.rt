@@ -12,5 +12,5 @@ use framing::returned::Returned;
 pub extern "C" fn lingfallow_analyse(bytes: &[u8], reply: &mut [u8]) -> Returned
     ensures { (result ≡ returned bytes.now (length reply.old)) × (reply.new ≡ left bytes.now reply.old) }
 {
-    analyse(bytes, reply)
+    Returned::from(analyse(bytes, reply))
 }

@@ -11,7 +11,9 @@ use Rattle.framing.specs.First.{◌when◌else◌}
 use Rattle.framing.specs.Returned.{accepted_with, room_for, put_into, value_by}
 use Rattle.plan_values.specs.declared.Platform.{Platform}
 use Rattle.plan_values.specs.declared.Flow.{Flow}
-use Rattle.plan.specs.declared.Reading.{Reading}
+use Rattle.std.specs.Prelude.{Result}
+use Rattle.framing.specs.declared.returned.Refusal.{Refusal}
+use Rattle.plan.specs.declared.Plan.{Plan}
 use Rattle.plan.specs.Reading.{accepted, refused, read_plan}
 use Rattle.plan.proofs.Answered.{Lawful, accepts, refuses, answered}
 use Rattle.plan.proofs.Exact.{legal}
@@ -80,10 +82,10 @@ module _ (s : List ℕ) where
   unfolding refused
   again = go (read_plan s) refl (answered s)
     where
-      go : (r : Reading) → read_plan s ≡ r → Lawful s r → (returned (converted s) ≡ returned s) × (converted (converted s) ≡ converted s)
+      go : (r : Result Plan Refusal) → read_plan s ≡ r → Lawful s r → (returned (converted s) ≡ returned s) × (converted (converted s) ≡ converted s)
       go r e (accepts p fs laid w) =
           let (a, b) = kept_again s p fs e in
           (sym a ∙ sym (accepted_with_0 s p fs e), sym b)
-      go r e (refuses number place n h) =
-          let b : s ≡ converted s = (refused_kept s refl (ap (λ (x : Reading). x.outcome) e)).1 in
+      go r e (refuses fault place n h) =
+          let b : s ≡ converted s = (refused_kept s e).1 in
           (ap returned (sym b), ap converted (sym b))

@@ -8,19 +8,20 @@ use mathlib.Core.List.{List}
 use lib.ListN.{length, set, length-set}
 use lib.Seq.{get_or-set_same, get_or-set_other, ext_get_or}
 use Rattle.framing_numbers.specs.Numbers.{one_at}
-use Rattle.framing.specs.Returned.{refused_with, accepted_with}
+use Rattle.std.specs.Prelude.{Result, Ok}
+use Rattle.framing.specs.Returned.{number_of, refused_with, accepted_with}
 use Rattle.framing.specs.declared.returned.Returned.{Returned}
-use Rattle.framing.specs.declared.returned.Outcome.TheVariants.{Accepted}
+use Rattle.framing.specs.declared.returned.Refusal.{Refusal}
 use Rattle.plan_values.specs.declared.Platform.{Platform}
 use Rattle.plan_values.specs.declared.Flow.{Flow}
-use Rattle.plan.specs.declared.Reading.{Reading}
+use Rattle.plan.specs.declared.Plan.{Plan}
 use Rattle.plan.specs.Legal.{Legal}
 use Rattle.plan.specs.Layout.{Laid}
 use Rattle.plan.specs.Reasons.{RefusedBecause}
-use Rattle.plan.specs.Reading.{accepted, refused, read_plan}
+use Rattle.plan.specs.Reading.{plan_of, accepted, refused, read_plan}
 use Rattle.plan.proofs.Answered.{Lawful, accepts, refuses, answered}
 use Rattle.plan.proofs.Exact.{accepted_exactly}
-use Rattle.plan.proofs.Because.{refused_exactly}
+use Rattle.plan.proofs.Because.{refused_exactly, refused_for}
 use Rattle.converter.specs.Converted.{converted, returned}
 use Rattle.converter.proofs.Converting.{Convert, refused_kept, method_inside, zero_rewritten, other_kept}
 
@@ -52,21 +53,21 @@ rewritten_so s h = record { long = length-set s 8 2; method = get_or-set_same s 
 module _ (s : List ℕ) where
   -- The byte of an accepted plan's method.
   module _ (p : Platform) (fs : List Flow) (e : read_plan s ≡ accepted p fs) where
-    is_accepted : (read_plan s).outcome ≡ Accepted
+    read_as : read_plan s ≡ Ok (plan_of p fs)
     unfolding accepted
-    is_accepted = rw e
+    read_as = e
 
     method_is : one_at s 8 ≡ p.method
     method_is = ap (λ (q : Platform). q.method) ((accepted_exactly s p fs).0 e).0.platform.1
 
     inside : 8 < length s
-    inside = method_inside s refl is_accepted
+    inside = method_inside s read_as
 
     pub converts_zero : p.method ≡ 0 → Convert s (accepted_with 0) (set s 8 2)
-    converts_zero z = zero_rewritten s refl is_accepted (method_is ∙ z)
+    converts_zero z = zero_rewritten s read_as (method_is ∙ z)
 
     pub keeps_other : p.method ≢ 0 → Convert s (accepted_with 0) s
-    keeps_other n = other_kept s refl is_accepted (λ z. n (sym method_is ∙ z))
+    keeps_other n = other_kept s read_as (λ z. n (sym method_is ∙ z))
 
   settled : {r : Returned} {t : List ℕ} → Convert s r t → Conversion s r t → Conversion s (returned s) (converted s)
   settled (e, f) c = rw (← e, ← f) c
@@ -79,10 +80,9 @@ module _ (s : List ℕ) where
       by_method p fs laid legal e (yes z) = settled (converts_zero p fs e z) (rewrites p fs laid legal z (rewritten_so s (inside p fs e)))
       by_method p fs laid legal e (no n) = settled (keeps_other p fs e n) (keeps p fs laid legal n)
 
-      go : (r : Reading) → read_plan s ≡ r → Lawful s r → Conversion s (returned s) (converted s)
+      go : (r : Result Plan Refusal) → read_plan s ≡ r → Lawful s r → Conversion s (returned s) (converted s)
       go r e (accepts p fs laid legal) = by_method p fs laid legal e (ℕ_discrete p.method 0)
-      go r e (refuses number place n h) =
-          settled (refused_kept s refl (ap (λ (x : Reading). x.outcome) e)) (sends_back number place ((refused_exactly s number place).0 e))
+      go r e (refuses fault place n h) = settled (refused_kept s e) (sends_back (number_of fault) place ((refused_exactly s fault place).0 e))
 
   -- What `convert` promises is what a conversion comes to, no less and no more.
   pub promised_exactly : (r : Returned) (t : List ℕ) → ((r ≡ returned s) × (t ≡ converted s)) ↔ Conversion s r t
@@ -94,7 +94,7 @@ module _ (s : List ℕ) where
           let e = (accepted_exactly s p fs).1 (laid, legal) in
           rw (rewritten_once s _ (inside p fs e) w) (converts_zero p fs e z)
       go (keeps p fs laid legal n) = keeps_other p fs ((accepted_exactly s p fs).1 (laid, legal)) n
-      go (sends_back number place w) = refused_kept s refl (ap (λ (x : Reading). x.outcome) ((refused_exactly s number place).1 w))
+      go (sends_back number place w) = let (fault, n, e) = refused_for s number place w in rw n at (refused_kept s e)
 
   -- "two results allowed for one input coincide"
   pub once : (r q : Returned) (t u : List ℕ) → Conversion s r t → Conversion s q u → (r ≡ q) × (t ≡ u)

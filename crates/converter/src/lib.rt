@@ -2,31 +2,23 @@
 #![tactic(auto)]
 
 ghost use Rattle.std.specs.Prelude.{◌≡◌};
+ghost use Rattle.framing.specs.Returned.{value_by};
 ghost use Rattle.converter.specs.Converted.{returned, converted};
 
-use framing::returned::{Outcome, Returned};
+use framing::returned::Refusal;
 use plan::read;
 
-// Where a plan's method stands: behind tag, length and five fields.
+// Where a plan's method stands, behind tag, length and five fields: one byte is rewritten in its place.
 const METHOD: usize = 8;
 
 // Rewrites method 0 of an accepted plan as 2, where it stands. A refusal leaves the plan's bytes as they were.
-pub fn convert(plan: &mut [u8]) -> Returned
-    ensures { (result ≡ returned plan.old) × (plan.new ≡ converted plan.old) }
+#[tactic(auto, using(crate::proofs::Converting::method_inside, crate::proofs::Converting::zero_rewritten, crate::proofs::Converting::other_kept), unfolding(framing::specs::Returned::value_by))]
+pub fn convert(plan: &mut [u8]) -> Result<(), Refusal>
+    ensures { (value_by result 0 ≡ returned plan.old) × (plan.new ≡ converted plan.old) }
 {
-    let reading = read(plan);
-    let outcome = reading.outcome;
-    if let Outcome::Refused(number, place) = outcome {
-        return Returned {
-            number,
-            value: place,
-        };
-    }
+    read(plan)?;
     if plan[METHOD] == 0 {
         plan[METHOD] = 2;
     }
-    Returned {
-        number: 0,
-        value: 0,
-    }
+    Ok(())
 }

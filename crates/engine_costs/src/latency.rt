@@ -4,25 +4,20 @@ ghost use Rattle.plan.specs.Legal.{LegalPlatform, LegalFlow};
 ghost use Rattle.model.specs.Links.{route_of};
 ghost use Rattle.model.specs.Latency.{flits_sent, limit as limit_of, latency as latency_of};
 
-use crate::numbers::{wide8, wide16};
 use plan_values::{Flow, Platform};
 
 // What a bound is held against: the deadline less the jitter, and nothing where the jitter is not below it.
 pub fn limit(f: Flow) -> u32
     ensures { result ≡ limit_of f }
 {
-    if f.jitter < f.deadline {
-        f.deadline - f.jitter
-    } else {
-        0
-    }
+    f.deadline.saturating_sub(f.jitter)
 }
 
 // The flits that the unloaded latency is worked out from: the packet's and those of its priority.
 fn flits_sent(p: Platform, f: Flow) -> u32
     ensures { result ≡ flits_sent p f }
 {
-    wide16(f.flits) + wide8(p.priority_flits)
+    u32::from(f.flits) + u32::from(p.priority_flits)
 }
 
 // From the route's length, which is what a flow shares with itself.
@@ -31,6 +26,6 @@ pub fn latency(p: Platform, f: Flow, links: u8) -> u32
     requires links_of_route { links ≡ length (route_of p f) }
     ensures { result ≡ latency_of p f }
 {
-    let hops = wide8(links) - 1;
-    wide8(p.link) * (flits_sent(p, f) + hops) + wide8(p.routing) * hops
+    let hops = u32::from(links) - 1;
+    u32::from(p.link) * (flits_sent(p, f) + hops) + u32::from(p.routing) * hops
 }

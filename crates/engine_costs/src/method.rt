@@ -5,6 +5,7 @@ ghost use Rattle.model.specs.Latency.{house_default, method_used};
 use model::Method;
 use plan_values::Platform;
 
+// A function and no constant: its contract ties it to the definition.
 fn house_default() -> Method
     ensures { result ≡ house_default }
 {
@@ -15,11 +16,5 @@ fn house_default() -> Method
 pub fn method_used(p: Platform) -> Method
     ensures { result ≡ method_used p }
 {
-    let method = p.method;
-    match method {
-        1 => Method::SB,
-        2 => Method::XLWX,
-        3 => Method::IBN,
-        _ => house_default(),
-    }
+    Method::try_from(p.method).unwrap_or(house_default())
 }

@@ -7,18 +7,17 @@ use mathlib.Core.Path.{◌≡◌, refl, sym, ap, ap₂, ◌∙◌}
 use mathlib.Core.Bool.{Bool, true, false, cond, false≢true}
 use mathlib.Core.List.{List, [], ◌∷◌, ◌++◌, map, map-append, append-nil}
 use lib.ListN.{length, get_or, take, set, replicate, length-append, length-set, length-replicate, get_or-replicate, get_or-append}
-use lib.Seq.{length-take-le, take-suc, take-suc-set, get_or-take, get_or-set_same, get_or-append_seam}
-use borrow.Author.Count.{below_more}
+use lib.Seq.{length-take-le, take-suc, take-suc-set, get_or-take, get_or-append_seam}
 use Rattle.plan_values.specs.declared.Flow.{Flow}
 use Rattle.plan_values.specs.Values.{blank_flow}
 use Rattle.plan.specs.Legal.{flow}
 use Rattle.recurrence.specs.Sums.{sum_over}
-use Rattle.recurrence.proofs.Sums.{sum_last}
+use Rattle.std.proofs.lemmas.List.Sums.{sum_by_push}
 use Rattle.model.specs.Interference.{keep, those}
 use Rattle.engine_terms.specs.Loads.{sum_to}
 use Rattle.engine_rows.specs.Filled.{Blank}
 use Rattle.engine_rows.specs.Places.{places, Listed, Dealt}
-use Rattle.engine_rows.proofs.Placing.{set_cell, blank_none, blank_room, blank_more}
+use Rattle.engine_rows.proofs.Placing.{blank_none, blank_room, blank_more}
 
 -- ---- the loop that lists them
 pub record Naming (test : ℕ → Bool) (count : ℕ) (cells : List ℕ) (n k : ℕ) : Type 0 where
@@ -172,24 +171,6 @@ dealing_none wanted cells n out e = record {
   so_far = record { named = λ l h. absurd (omega arith); others = λ k h t. ap (λ (o : List ℕ). get_or o k 0) e ∙ get_or-replicate {A = ℕ} 64 k 0 0 h };
 }
 
-module _ {wanted : ℕ → ℕ} {cells : List ℕ} {n : ℕ} {out : List ℕ} {m : ℕ} (w : Dealing wanted cells n out m) where
-  pub dealing_more : m < n → get_or cells m 0 < 64 → {x : ℕ} → x ≡ wanted (get_or cells m 0) → Dealing wanted cells n (set out (get_or cells m 0) x) (m + 1)
-  dealing_more h i {x} e =
-      let c = get_or cells m 0 in
-      let r : c < length out = omega (arith, w.room) in
-      record {
-        within = omega arith;
-        room = rw length-set w.room;
-        so_far = record {
-          -- a place that is named twice is given the same value twice
-          named = below_more _ m (λ l g. set_cell 0 out c x (get_or cells l 0) r (λ s. rw s e) (λ s. w.so_far.named l g)) (get_or-set_same out c x 0 r ∙ e);
-          others = λ k g t. set_cell 0 out c x k r (λ s. absurd (t m (omega arith) (sym s))) (λ s. w.so_far.others k g (λ l b. t l (omega arith)));
-        };
-      }
-
-  pub dealing_all : n ≤ m → Dealt wanted cells n out
-  dealing_all h = let e : m ≡ n = omega (arith, w.within) in rw e at w.so_far
-
 -- along a list of the places that pass
 pub dealt_cell : {test : ℕ → Bool} {wanted : ℕ → ℕ} {count : ℕ} {cells : List ℕ} {n : ℕ} {out : List ℕ} → Listed test count cells n → Dealt wanted cells n out → (k : ℕ) → k < count → get_or out k 0 ≡ cond (test k) (wanted k) 0
 dealt_cell {test} {wanted} {count} {cells} {n} {out} w d k g = go (test k) refl
@@ -224,13 +205,13 @@ sum_places test f zero none = refl
 sum_places test f (suc c) none = go (test c) refl (sum_places test f c (λ k h. none k (omega arith)))
   where
     go : (b : Bool) → test c ≡ b → sum_over (places test c) f ≡ sum_to c f → sum_over (places test c ++ cond b (c ∷ []) []) f ≡ sum_to c f + f c
-    go true t before = sum_last f (places test c) c ∙ ap (λ (s : ℕ). s + f c) before
+    go true t before = sum_by_push f (places test c) c ∙ ap (λ (s : ℕ). s + f c) before
     go false t before = ap (λ (l : List ℕ). sum_over l f) (append-nil (places test c)) ∙ omega (arith, before, none c (omega arith) t)
 
 sum_along : (f : ℕ → ℕ) (cells : List ℕ) (n : ℕ) → n ≤ length cells → sum_to n (λ m. f (get_or cells m 0)) ≡ sum_over (take n cells) f
 unfolding sum_to sum_over
 sum_along f cells zero h = refl
-sum_along f cells (suc n) h = ap (λ (s : ℕ). s + f (get_or cells n 0)) (sum_along f cells n (omega arith)) ∙ sym (sum_last f (take n cells) (get_or cells n 0)) ∙ ap (λ (l : List ℕ). sum_over l f) (sym (take-suc cells n 0 (omega arith)))
+sum_along f cells (suc n) h = ap (λ (s : ℕ). s + f (get_or cells n 0)) (sum_along f cells n (omega arith)) ∙ sym (sum_by_push f (take n cells) (get_or cells n 0)) ∙ ap (λ (l : List ℕ). sum_over l f) (sym (take-suc cells n 0 (omega arith)))
 
 pub sum_listed : {test : ℕ → Bool} {count : ℕ} {cells : List ℕ} {n : ℕ} → Listed test count cells n → (f : ℕ → ℕ) → ((k : ℕ) → k < count → test k ≡ false → f k ≡ 0) → sum_to n (λ m. f (get_or cells m 0)) ≡ sum_to count f
 sum_listed {test} {count} {cells} {n} w f none =

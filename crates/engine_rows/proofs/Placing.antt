@@ -1,12 +1,12 @@
--- A loop that puts what is wanted into the cells of an array of 64, place by place.
-use Prim.Native.Nat.{ℕ, ◌+◌, ◌≤◌, ◌<◌}
+-- The cells of an array of 64: one is set, and those behind a place are blank.
+use Prim.Native.Nat.{ℕ, ◌+◌, ◌<◌}
 use native.Mathlib.Omega.{arith}
 use native.Mathlib.Decide.{ℕ_discrete}
 use mathlib.Core.Path.{◌≡◌, ap, ◌∙◌}
 use mathlib.Core.List.{List}
-use lib.ListN.{length, get_or, set, replicate, length-set, length-replicate, get_or-replicate}
+use lib.ListN.{length, get_or, set, replicate, length-replicate, get_or-replicate}
 use lib.Seq.{get_or-set_same, get_or-set_other}
-use Rattle.engine_rows.specs.Filled.{Filled, Blank}
+use Rattle.engine_rows.specs.Filled.{Blank}
 
 -- ---- the cells that are still blank
 pub blank_none : {A : Type 0} (blank : A) {cells : List A} → cells ≡ replicate 64 blank → Blank blank cells 0
@@ -25,26 +25,3 @@ set_cell blank cells i x k {y} room same other = go (ℕ_discrete k i)
 
 pub blank_more : {A : Type 0} {blank : A} {cells : List A} {i : ℕ} (x : A) → i < length cells → Blank blank cells i → Blank blank (set cells i x) (i + 1)
 blank_more {A} {blank} {cells} {i} x room w = record { rest = λ k l h. set_cell blank cells i x k room (λ s. absurd (omega arith)) (λ n. w.rest k (omega arith) h) }
-
-pub record Placing {A : Type 0} (blank : A) (wanted : ℕ → A) (count : ℕ) (cells : List A) (i : ℕ) : Type 0 where
-  pub few : count ≤ 64
-  pub within : i ≤ count
-  pub room : length cells ≡ 64
-  pub filled : Filled blank wanted cells i
-  pub empty : Blank blank cells i
-
-pub placing_none : {A : Type 0} (blank : A) (wanted : ℕ → A) (count : ℕ) {cells : List A} → count ≤ 64 → cells ≡ replicate 64 blank → Placing blank wanted count cells 0
-placing_none blank wanted count h e = record { few = h; within = omega arith; room = blank_room blank e; filled = record { cell = λ k l. absurd (omega arith) }; empty = blank_none blank e }
-
-module _ {A : Type 0} {blank : A} {wanted : ℕ → A} {count : ℕ} {cells : List A} {i : ℕ} (w : Placing blank wanted count cells i) where
-  pub placing_more : {x : A} → i < count → x ≡ wanted i → Placing blank wanted count (set cells i x) (i + 1)
-  placing_more {x} h e = record {
-    few = w.few;
-    within = omega arith;
-    room = rw length-set w.room;
-    filled = record { cell = λ k l. set_cell blank cells i x k (omega (arith, w.few, w.room)) (λ s. rw s e) (λ n. w.filled.cell k (omega arith)) };
-    empty = blank_more x (omega (arith, w.few, w.room)) w.empty;
-  }
-
-  pub placing_all : count ≤ i → Filled blank wanted cells count × Blank blank cells count
-  placing_all h = let e : i ≡ count = omega (arith, w.within) in (rw e at w.filled, rw e at w.empty)

@@ -16,12 +16,8 @@ use Rattle.model.specs.Links.{route_of, pair_of}
 use Rattle.model.proofs.Links.{with_itself}
 use Rattle.pairs.specs.Pairs.{no_pair, no_row, pair_table}
 use Rattle.pairs.specs.Scene.{Scene, HasRow}
-use Rattle.pairs.proofs.Tables.{any_default}
+use Rattle.std.proofs.lemmas.List.{get_or_default}
 use Rattle.pairs.proofs.Cells.{filled_cell}
-
--- what an array of flows is read as where it has no cell
-abbrev pub zeros : Flow
-zeros = record { id = 0; priority = 0; source = 0; destination = 0; flits = 0; period = 0; deadline = 0; jitter = 0 }
 
 module _ {p : Platform} {flows : List Flow} {count : ℕ} (w : Scene p flows count) where
   pub scene_long : length (take count flows) ≡ count
@@ -30,15 +26,8 @@ module _ {p : Platform} {flows : List Flow} {count : ℕ} (w : Scene p flows cou
   pub scene_at : (k : ℕ) → k < count → flow (take count flows) k ≡ flow flows k
   scene_at k h = get_or-take count flows k blank_flow h
 
-  -- what the code reads at k
-  pub scene_read : (k : ℕ) → k < count → get_or flows k zeros ≡ flow flows k
-  scene_read k h = any_default flows k zeros blank_flow (omega (arith, w.few, w.room))
-
   pub scene_flow : (k : ℕ) → k < count → LegalFlow p (flow flows k)
   scene_flow k h = rw (scene_at k h) at (w.legal.each k (omega (arith, scene_long)))
-
-  pub scene_legal : (k : ℕ) → k < count → LegalFlow p (get_or flows k zeros)
-  scene_legal k h = rw (scene_read k h) (scene_flow k h)
 
   pub own_length : (k : ℕ) → k < count → (pair_of p (flow flows k) (flow flows k)).count ≡ length (route_of p (flow flows k))
   own_length k h = ap (λ (x : Pair). x.count) (rw (scene_at k h) at (with_itself w.legal k (omega (arith, scene_long))))
@@ -51,7 +40,7 @@ module _ {p : Platform} {flows : List Flow} {count : ℕ} (w : Scene p flows cou
       let m = length-map fs (λ f. padded no_pair (map (pair_of p f) fs)) in
       let l : length table ≡ 64 = ap length e ∙ length_padded no_row (map (λ f. padded no_pair (map (pair_of p f) fs)) fs) (omega (arith, w.few)) in
       let r : get_or table i d ≡ padded no_pair (map (pair_of p (flow flows i)) fs) =
-      any_default table i d no_row (omega (arith, w.few))
+      get_or_default table i d no_row (omega (arith, w.few))
       ∙ ap (λ (t : List (List Pair)). get_or t i no_row) e
       ∙ filled_cell no_row (λ f. padded no_pair (map (pair_of p f) fs)) fs i (omega arith)
       ∙ ap (λ (f : Flow). padded no_pair (map (pair_of p f) fs)) (scene_at i h) in

@@ -2,5 +2,6 @@
 #![tactic(auto)]
 
 pub mod hits;
+pub mod row;
 pub mod rows;
 pub mod search;

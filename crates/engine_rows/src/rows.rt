@@ -1,74 +1,30 @@
-// One flow's row of the pair table, in columns that can be lent, and its direct flows.
-ghost use Rattle.std.specs.Prelude.{◌≡◌, ◌≤◌};
+// A flow's direct flows, found.
+ghost use Rattle.std.specs.Prelude.{◌≡◌, ◌≤◌, length};
 ghost use Rattle.engine_terms.specs.Loads.{direct_by};
-ghost use Rattle.pairs.specs.Scene.{Scene};
-ghost use Rattle.plan.specs.Legal.{flow as flow_at};
-ghost use Rattle.engine_rows.specs.Filled.{Filled, Blank};
 ghost use Rattle.engine_rows.specs.Rows.{Rowed};
 
-use engine_costs::numbers::Bytes;
+use crate::row::Row;
 use pairs::PairRow;
-use plan::Plan;
-
-pub type Priorities = [u16; 64];
-
-// The links shared with each flow, the first places, and the places in the plan of the direct flows, `many` of them.
-#[derive(Clone, Copy)]
-pub struct Row {
-    pub shared: Bytes,
-    pub firsts: Bytes,
-    pub direct: Bytes,
-    pub many: usize,
-}
-
-pub fn priorities_of(plan: Plan) -> Priorities
-    requires { Scene plan.platform plan.flows plan.count }
-    ensures { Filled 0 (λ k. (flow_at plan.flows k).priority) result plan.count × Blank 0 result plan.count }
-{
-    let flows = plan.flows;
-    let count = plan.count;
-    let mut priorities = [0; 64];
-    let mut k: usize = 0;
-    while k < count {
-        let f = flows[k];
-        priorities[k] = f.priority;
-        k += 1;
-    }
-    priorities
-}
+use plan_values::Flow;
 
 fn is_direct(own: u16, theirs: u16, shared: u8) -> bool
     ensures { result ≡ direct_by own theirs shared }
 {
-    if theirs < own {
-        return 0 < shared;
-    }
-    false
+    theirs < own && 0 < shared
 }
 
-pub fn row_of(pairs: PairRow, priorities: &Priorities, own: u16, count: usize) -> Row
-    requires { count ≤ 64 }
-    ensures { Rowed pairs priorities.now own count result }
+// From a flow's row of the pair table and its priority.
+pub fn row_of(pairs: &PairRow, flows: &[Flow], own: u16) -> Row
+    requires { length flows.now ≤ 64 }
+    ensures { Rowed pairs.now flows.now own result }
 {
-    let mut shared = [0; 64];
-    let mut firsts = [0; 64];
     let mut direct = [0; 64];
-    let mut many: usize = 0;
-    let mut k: usize = 0;
-    while k < count {
-        let pair = pairs[k];
-        shared[k] = pair.count;
-        firsts[k] = pair.first;
-        if is_direct(own, priorities[k], pair.count) {
-            direct[many] = k as u8;
+    let mut many = 0;
+    for (k, flow) in flows.iter().enumerate() {
+        if is_direct(own, flow.priority, pairs[k].count) {
+            direct[many] = k as u8; // below 64: try_from would have a refusal that cannot come
             many += 1;
         }
-        k += 1;
     }
-    Row {
-        shared,
-        firsts,
-        direct,
-        many,
-    }
+    Row { direct, many }
 }

@@ -1,60 +1,39 @@
 // A flow's recurrence, from the bounds of its direct flows.
 #![tactic(auto)]
 
-ghost use Rattle.std.specs.Prelude.{map, take};
+pub mod turn;
+
+ghost use Rattle.std.specs.Prelude.{◌≡◌, ◌<◌, map, take};
 ghost use Rattle.recurrence.specs.Recurrence.{right_side};
 ghost use Rattle.recurrence.specs.Verdicts.{Allowed};
-ghost use Rattle.engine_solve.specs.Solving.{term_at, Solvable};
+ghost use Rattle.engine_solve.specs.Solving.{term_at, Lawful, Solvable};
 
-use engine_costs::figures::{BOUND, COST, END, FigureTable, LAST, SEEN};
-use engine_costs::numbers::{Bytes, place};
-use engine_rows::hits::HitTable;
-use engine_rows::rows::Row;
+use crate::turn::Turn;
+use engine_terms::kept::KeptTable;
 use engine_terms::loads::sum_loads;
-use engine_terms::terms::{Way, cap_of, term_of};
-use recurrence::{Settled, settle};
+use engine_terms::terms::Way;
+use pairs::PairTable;
+use recurrence::{Settled, Term, settle};
 
-// Row j: the direct flows of flow j, or the first places on its route.
-pub type ByteTable = [Bytes; 64];
-
-// The flow at i, of the latency `cost`.
-pub fn solve(
-    way: Way,
-    i: usize,
-    cost: u32,
-    limit: u32,
-    row: Row,
-    lists: &ByteTable,
-    firsts: &ByteTable,
-    hits: &HitTable,
-    figures: &FigureTable,
-) -> Settled
-    requires { Solvable way i cost limit row lists.now firsts.now hits.now figures.now }
-    ensures { Allowed (right_side cost (map (term_at way i row.shared lists.now firsts.now hits.now figures.now) (take row.many row.direct))) cost limit result }
+// Of the direct flow at j for the one at i.
+fn term_of(way: Way, i: usize, j: usize, kept: &KeptTable, table: &PairTable) -> Term
+    requires { (i < 64) × Lawful way i kept.now table.now j }
+    ensures { result ≡ term_at way i kept.now table.now j }
 {
-    let method = way.method;
-    let platform = way.platform;
-    let shared = row.shared;
-    let direct = row.direct;
-    let many = row.many;
-    let mut ends = [0; 64];
-    let mut lasts = [0; 64];
-    let mut weights = [0; 64];
-    let mut m: usize = 0;
-    while m < many {
-        let j = place(direct[m]);
-        let first = firsts[j][i];
-        let cap = cap_of(method, platform, shared[j]);
-        let g = figures[j];
-        let seen = g[SEEN] as usize;
-        let l = sum_loads(
-            &lists[j], seen, &shared, &firsts[j], &hits[j], figures, first, cap,
-        );
-        let t = term_of(method, g[END], g[LAST], g[BOUND], g[COST], l);
-        ends[m] = t.end;
-        lasts[m] = t.last;
-        weights[m] = t.weight;
-        m += 1;
+    let cap = way.cap(table[i][j].count);
+    let loads = sum_loads(kept, table, i, j, cap);
+    way.term(&kept[j].figures, loads)
+}
+
+// The terms stand in an array, since there is no heap, and are lent as a slice. What is kept is written to between the calls,
+// so that a struct that lends way, table and kept would be made anew for each.
+pub fn solve(way: Way, turn: &Turn, kept: &KeptTable, table: &PairTable) -> Settled
+    requires { Solvable way turn.now kept.now table.now }
+    ensures { Allowed (right_side turn.now.cost (map (term_at way turn.now.place kept.now table.now) (take turn.now.row.many turn.now.row.direct))) turn.now.cost turn.now.limit result }
+{
+    let mut terms = [Term::default(); 64];
+    for (m, j) in turn.row.direct().iter().enumerate() {
+        terms[m] = term_of(way, turn.place, usize::from(*j), kept, table);
     }
-    settle(cost, limit, &ends, &lasts, &weights, many)
+    settle(turn.cost, turn.limit, &terms[..turn.row.many])
 }

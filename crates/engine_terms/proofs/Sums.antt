@@ -3,7 +3,8 @@ use Prim.Native.Nat.{ℕ, zero, suc, ◌+◌, ◌≤◌, ◌<◌}
 use native.Mathlib.Omega.{arith}
 use native.Mathlib.Numerals.{add-one}
 use native.Mathlib.Decide.{dec_le}
-use mathlib.Core.Path.{◌≡◌, refl, ap, ap₂, ◌∙◌}
+use mathlib.Core.Path.{◌≡◌, refl, sym, ap, ap₂, ◌∙◌}
+use Rattle.std.proofs.lemmas.List.Sums.{sum_by-cons}
 use mathlib.Core.Bool.{Bool, true, false, cond}
 use mathlib.Core.List.{List, [], ◌∷◌}
 use lib.ListN.{length}
@@ -43,5 +44,5 @@ sum_those test g [] = refl
 sum_those test g (f ∷ fs) = sum_shift (λ k. cond (test (flow (f ∷ fs) k)) (g (flow (f ∷ fs) k)) 0) (length fs) ∙ ap (λ (x : ℕ). cond (test f) (g f) 0 + x) (sum_those test g fs) ∙ go (test f)
   where
     go : (b : Bool) → cond b (g f) 0 + sum_over (those test fs) g ≡ sum_over (keep b f (those test fs)) g
-    go true = refl
+    go true = sym (sum_by-cons g f (those test fs))
     go false = omega arith

@@ -1,7 +1,10 @@
 -- A third flow's part in the loads of a pair, and the loop that adds the parts up.
 use Prim.Native.Nat.{ℕ, ◌+◌, ◌*◌, ◌≤◌, ◌<◌, min}
 use native.Mathlib.Omega.{arith}
-use mathlib.Core.Path.{◌≡◌, refl}
+use mathlib.Core.Path.{◌≡◌, refl, ap, ◌∙◌}
+use mathlib.Core.List.{List}
+use lib.ListN.{length, take, get_or}
+use lib.Seq.{get_or-take}
 use mathlib.Core.Bool.{Bool, true, false, cond, not, ◌&&◌}
 use borrow.Author.Tests.{lt-ltb, le-ltb}
 use lib.Dec.{ltb}
@@ -63,3 +66,7 @@ module _ {ups downs : ℕ → ℕ} {count up down k : ℕ} (w : Adding ups downs
 
   pub adding_all : count ≤ k → (up ≡ sum_to count ups) × (down ≡ sum_to count downs)
   adding_all h = let e : k ≡ count = omega (arith, w.within) in (rw e at w.up_is, rw e at w.down_is)
+
+-- what a loop along the first n of some cells reads
+pub read_along : (cells : List ℕ) {items : List ℕ} {n m x : ℕ} → items ≡ take n cells → length items ≡ n → m < length items → x ≡ get_or items m 0 → (m < n) × (x ≡ get_or cells m 0)
+read_along cells {n = n} {m} e l h r = let i : m < n = omega arith in (i, r ∙ ap (λ (xs : List ℕ). get_or xs m 0) e ∙ get_or-take n cells m 0 i)

@@ -1,12 +1,11 @@
 -- What the engine adds up for a pair of flows, by the cells of its columns.
-use Rattle.std.specs.Prelude.{ℕ, zero, suc, ◌+◌, ◌-◌, ◌*◌, min, Bool, cond, not, ◌&&◌, List, ltb, get_or}
+use Rattle.std.specs.Prelude.{ℕ, zero, suc, ◌+◌, ◌-◌, ◌*◌, min, Bool, cond, not, ◌&&◌, ltb}
 use Rattle.plan_values.specs.declared.Platform.{Platform}
 use Rattle.model.specs.declared.Method.{Method}
 use Rattle.model.specs.declared.Method.TheVariants.{SB, XLWX, IBN}
 use Rattle.model.specs.Latency.{method_used}
-use Rattle.engine_terms.specs.declared.terms.Term.{Term}
+use Rattle.recurrence.specs.Recurrence.{Arrivals, Term}
 use Rattle.engine_terms.specs.declared.terms.Way.{Way}
-use Rattle.engine_costs.specs.Figures.{cost_at}
 
 -- "j has higher priority and they share a link", by the priorities of i and j and the number of links that they share.
 abbrev pub direct_by : ℕ → ℕ → ℕ → Bool
@@ -24,12 +23,13 @@ up_part shared place first hit cost = cond (not (ltb 0 shared) && ltb place firs
 unfoldable pub down_part : ℕ → ℕ → ℕ → ℕ → ℕ → ℕ → ℕ
 down_part shared place first cap hit cost = cond (not (ltb 0 shared) && not (ltb place first)) (hit * min cost cap) 0
 
-module _ (shared places hit : List ℕ) (figures : List (List ℕ)) (first : ℕ) where
+-- By the links that each flow shares with i, its first place on j's route, its hits on j and its latency.
+module _ (shared places hits cost : ℕ → ℕ) (first : ℕ) where
   abbrev pub up_load : ℕ → ℕ
-  up_load k = up_part (get_or shared k 0) (get_or places k 0) first (get_or hit k 0) (cost_at figures k)
+  up_load k = up_part (shared k) (places k) first (hits k) (cost k)
 
   abbrev pub down_load : ℕ → ℕ → ℕ
-  down_load cap k = down_part (get_or shared k 0) (get_or places k 0) first cap (get_or hit k 0) (cost_at figures k)
+  down_load cap k = down_part (shared k) (places k) first cap (hits k) (cost k)
 
 -- "min(C_k, B)": what a hit of a downstream flow costs at most. XLWX has no such limit, and SB looks at no third flow.
 abbrev pub cap_by : Method → Platform → ℕ → ℕ
@@ -51,5 +51,5 @@ allowance_by SB R cost up = R - cost
 allowance_by XLWX R cost up = up
 allowance_by IBN R cost up = R - cost
 
-abbrev pub term_by : Method → ℕ → ℕ → ℕ → ℕ → ℕ → ℕ → Term
-term_by m end last R cost up down = record { end = end + allowance_by m R cost up; last = last; weight = cost + down }
+abbrev pub term_by : Method → Arrivals → ℕ → ℕ → ℕ → ℕ → Term
+term_by m a R cost up down = record { shift = a.shift + allowance_by m R cost up; period = a.period; weight = cost + down }

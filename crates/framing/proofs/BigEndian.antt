@@ -1,6 +1,6 @@
 -- What is written is read back, and what was read is written again: one law each, over the width.
 use Prim.Native.Nat.{ℕ, ◌+◌, ◌*◌, ◌/◌, ◌%◌, ◌^◌, ◌≤◌, ◌<◌}
-use mathlib.Core.Path.{◌≡◌, refl, sym, ap₂, ◌∙◌}
+use mathlib.Core.Path.{◌≡◌, refl, sym, ap, ap₂, ◌∙◌}
 use mathlib.Core.List.{List, [], ◌∷◌, ◌++◌}
 use native.Mathlib.Omega.{arith}
 use lib.ListN.{length}
@@ -9,6 +9,14 @@ use Rattle.framing_numbers.specs.Numbers.{one_at, two_at, bytes_of, number_at, B
 use Rattle.framing_numbers.specs.declared.Width.{Width}
 use Rattle.framing_numbers.specs.declared.Width.TheVariants.{One, Two, Four}
 use Rattle.framing.proofs.Parts.{part, part_one, part_join}
+use Rattle.std.specs.Int.{w16, w32, to_be_bytes}
+
+-- What `to_be_bytes` of std gives are a number's bytes.
+pub two_of_std : (x : ℕ) → to_be_bytes w16 x ≡ two_bytes x
+two_of_std x = ap (λ (low : ℕ). byte_of 256 x ∷ low ∷ []) (omega arith)
+
+pub four_of_std : (x : ℕ) → to_be_bytes w32 x ≡ four_bytes x
+four_of_std x = ap (λ (low : ℕ). byte_of 16777216 x ∷ byte_of 65536 x ∷ byte_of 256 x ∷ low ∷ []) (omega arith)
 
 -- A number below 2 ^ 16 from its two bytes, and one below 2 ^ 32 from its four.
 from_two : (x : ℕ) → x < 65536 → 256 * byte_of 256 x + byte_of 1 x ≡ x

@@ -1,4 +1,3 @@
-mod Copied
 pub mod Parts
 pub mod BigEndian
 pub mod Each
@@ -8,3 +7,4 @@ pub mod Stands
 pub mod Rooms
 pub mod First
 pub mod Tests
+pub mod Faults

@@ -1,12 +1,13 @@
 -- Bytes written behind bytes that were written.
-use Prim.Native.Nat.{ℕ, ◌+◌, ◌≤◌}
+use Prim.Native.Nat.{ℕ, ◌+◌, ◌-◌, ◌≤◌}
 use native.Mathlib.Omega.{arith}
 use mathlib.Core.Path.{◌≡◌, sym, ap, ◌∙◌}
-use mathlib.Core.List.{List, ◌++◌, append_assoc, append-nil}
+use mathlib.Core.List.{List, ◌++◌, append_assoc}
 use native.Mathlib.Nat.{zero-add}
-use lib.ListN.{length, take, drop, length-append, drop_of_length-le}
+use lib.ListN.{length, take, drop, length-append}
 use lib.Seq.{take_at, drop-drop, length-take-le, drop-append-add}
 use Rattle.framing.specs.Put.{put}
+use Rattle.framing.proofs.Writing.{lent}
 
 pub put_put : (old : List ℕ) (at : ℕ) (s t : List ℕ) → at ≤ length old → put (put old at s) (at + length s) t ≡ put old at (s ++ t)
 put_put old at s t h =
@@ -20,9 +21,15 @@ put_put old at s t h =
     ∙ ap (λ x. (front ++ t) ++ x) r
     ∙ ap (λ x. x ++ drop (at + length (s ++ t)) old) (append_assoc (take at old) s t)
 
--- Bytes written over all that a slice held.
-pub put_whole : (old new : List ℕ) → length new ≡ length old → put old 0 new ≡ new
-put_whole old new e =
-    ap (λ (k : ℕ). new ++ drop k old) (zero-add (length new))
-    ∙ ap (λ (x : List ℕ). new ++ x) (drop_of_length-le old {i = length new} (omega (arith, e)))
-    ∙ append-nil new
+-- Bytes written from the start on, and others behind them.
+pub put_first : (old new : List ℕ) → put old 0 new ≡ new ++ drop (length new) old
+put_first old new = ap (λ (k : ℕ). new ++ drop k old) (zero-add (length new))
+
+pub put_next : (old s t : List ℕ) → put (put old 0 s) (length s) t ≡ put old 0 (s ++ t)
+put_next old s t = ap (λ (k : ℕ). put (put old 0 s) k t) (sym (zero-add (length s))) ∙ put_put old 0 s t (omega arith)
+
+-- A part that is lent, and comes back with as many bytes, is written.
+pub put_part : (old new : List ℕ) (at k : ℕ) → length new ≡ k → lent old at (at + k) new ≡ put old at new
+put_part old new at k e =
+    let q : at + k - at ≡ length new = omega (arith, e) in
+    rw (q, drop-drop (length new) at old) (sym (append_assoc (take at old) new (drop (at + length new) old)))

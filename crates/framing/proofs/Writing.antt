@@ -1,11 +1,15 @@
 -- A loop that writes a record for each thing of a list, each into its own part of a lent buffer.
-use Prim.Native.Nat.{ℕ, ◌+◌, ◌-◌, ◌≤◌, ◌<◌}
-use mathlib.Core.Path.{◌≡◌, sym, ap, ◌∙◌}
+use Prim.Native.Nat.{ℕ, ◌+◌, ◌-◌, ◌*◌, ◌≤◌, ◌<◌}
+use mathlib.Core.Path.{◌≡◌, refl, sym, ap, ◌∙◌}
 use mathlib.Core.List.{List, ◌++◌, append_assoc, append-nil}
 use native.Mathlib.Omega.{arith}
-use lib.ListN.{length, take, drop, get_or, length-append}
-use lib.Seq.{take_at, drop_at, drop-drop}
+use native.Mathlib.Nat.{add-zero, mul-zero, mul-suc}
+use native.Mathlib.Numerals.{add-one}
+use lib.ListN.{length, take, drop, get_or, length-append, take-append-drop}
+use lib.Seq.{take_at, drop_at, drop-drop, length-take-le}
+use Rattle.std.proofs.lemmas.List.{take_all}
 use Rattle.framing.specs.Each.{each}
+use Rattle.framing.specs.Put.{put}
 use Rattle.framing.proofs.Each.{each_more}
 
 -- What a slice holds once its part from `at` to `to` was lent and came back holding ys.
@@ -49,8 +53,28 @@ module _ {A : Type 0} {made : A → List ℕ} {at : ℕ → ℕ} {front was : Li
           held = at_part size ys ∙ (λ j. ((front ++ each made (take i list)) ++ e j) ++ drop (sym next j) was) ∙ ap (λ (x : List ℕ). x ++ drop (at (i + 1)) was) (sym more);
         }
 
-    -- Behind the last of them a part is written with ys.
-    pub writing_all : count ≤ i → (k : ℕ) (ys : List ℕ) → lent buffer (at count) (at count + k) ys ≡ (front ++ (each made (take count list) ++ ys)) ++ drop (at count + k) was
-    writing_all h k ys =
-        let c : count ≡ i = omega (arith, w.within) in
-        rw c (at_part k ys ∙ ap (λ (x : List ℕ). x ++ drop (at i + k) was) (append_assoc front (each made (take i list)) ys))
+-- Records of one size, from place `start` on of what the buffer held.
+pub record Rowed {A : Type 0} (made : A → List ℕ) (start size : ℕ) (was : List ℕ) (list : List A) (buffer : List ℕ) (i : ℕ) : Type 0 where
+  pub inside : start ≤ length was
+  pub writing : Writing made (λ (k : ℕ). start + size * k) (take start was) was list (length list) buffer i
+
+module _ {A : Type 0} {made : A → List ℕ} {start size : ℕ} {was : List ℕ} {list : List A} where
+  pub rowed_none : start ≤ length was → Rowed made start size was list was 0
+  rowed_none h =
+      let first : start ≡ start + size * 0 = simp (mul-zero, add-zero) refl in
+      record { inside = h; writing = writing_none (omega arith) (length-take-le start was h ∙ first) refl (sym (take-append-drop start was) ∙ ap (λ (k : ℕ). take start was ++ drop k was) first) }
+
+  module _ {buffer : List ℕ} {i : ℕ} (w : Rowed made start size was list buffer i) where
+    pub rowed_more : i < length list → {place : ℕ} → place ≡ start + size * i → (d : A) {ys : List ℕ} → length ys ≡ size → ys ≡ made (get_or list i d) → length (lent buffer place (place + size) ys) ≡ length buffer → Rowed made start size was list (lent buffer place (place + size) ys) (i + 1)
+    rowed_more h {place} e d {ys} n f l =
+        let next : start + size * (i + 1) ≡ start + size * i + size = rw (add-one, mul-suc) (omega arith) in
+        let here : lent buffer place (place + size) ys ≡ lent buffer (start + size * i) (start + size * i + size) ys = ap (λ (k : ℕ). lent buffer k (k + size) ys) e in
+        record { inside = w.inside; writing = rw here (writing_more w.writing h size next d (ap length (sym f) ∙ n) f (ap length (sym here) ∙ l)) }
+
+    pub rowed_all : length list ≤ i → buffer ≡ put was start (each made list)
+    rowed_all h =
+        let all : take i list ≡ list = take_all i list h in
+        let far : length (take start was ++ each made (take i list)) ≡ start + size * i = w.writing.far in
+        let n : start + size * i ≡ start + length (each made list) =
+        sym far ∙ length-append (take start was) (each made (take i list)) ∙ ap (λ (k : ℕ). k + length (each made (take i list))) (length-take-le start was w.inside) ∙ ap (λ (x : List A). start + length (each made x)) all in
+        w.writing.held ∙ λ j. (take start was ++ each made (all j)) ++ drop (n j) was

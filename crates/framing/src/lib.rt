@@ -1,7 +1,7 @@
-// Bytes in and out, for every file format of the analyser: the bytes of numbers, record headers, bytes copied in, what a call returns.
+// Bytes in and out, for every file format of the analyser: record headers, bytes copied in, records written one behind the other, what a call returns.
 #![tactic(auto)]
 
-pub mod big_endian;
 pub mod copy;
 pub mod header;
+pub mod records;
 pub mod returned;

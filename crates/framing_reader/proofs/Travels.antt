@@ -1,7 +1,7 @@
--- The calls of a reader's functions, each as one step of a walk that carries the token and what the bytes own (`Held.antt`). The machine value that each returns is known.
---     starts_at    `reader_at`: a reader of the bytes s at the place n
---     moves_past   `past`: from the place n to m, which is n + count
---     takes_at     `one`, `two` and `four`: the number at the place n
+-- The calls of a reader's methods, each as one step of a walk that carries the token and what the bytes own (`Held.antt`). The machine value that each returns is known.
+--     starts_at    `Reader::new`: a reader of the bytes s at the place n
+--     moves_past   `Reader::past`: from the place n to m, which is n + count
+--     takes_at     a number of one width: the number at the place n
 --     held, copies, lands_in       a local read, a local copied into another, a result stored in a local: each by the local's place in the context
 --     reader_typed     a reader's machine value has the struct's MIR type, whose lifetime a local's erases
 --     within, further, below       the places in a record that lies in the bytes
@@ -46,8 +46,8 @@ use Rattle.framing_reader.proofs.Held.{ReaderT, seen, Bytes, Reading, Token, alo
 use Rattle.framing_reader.proofs.Taking.{taking, taken, Taker}
 use Rattle.framing_reader.specs.contracts.Reader as T
 use Rattle.framing_reader.proofs.Reader.TheLaws as T'
-use Rattle.framing_reader.specs.contracts.reader_at as start
-use Rattle.framing_reader.specs.contracts.past as past
+use Rattle.framing_reader.specs.contracts.Reader.new as start
+use Rattle.framing_reader.specs.contracts.Reader.past as past
 
 -- ---- locals
 module _ {M : Type 1} {𝓤 : Ura M} {𝓛 : Logic 𝓤} {K : Type 0} {Γ : List (Item 𝓤)} {E : Env 𝓤 𝓛.H} where

@@ -2,7 +2,7 @@
 use Prim.Native.Nat.{ℕ}
 use mathlib.Core.Path.{◌≡◌, refl}
 use mathlib.Core.List.{List, [], ◌∷◌, ◌++◌, map}
-use lib.ListN.{length, take, set}
+use lib.ListN.{take, set}
 use Rattle.framing.specs.First.{◌when◌else◌}
 use Rattle.framing.specs.Each.{each}
 use Rattle.plan_table.specs.Table.{tag_of, six_or_seven}
@@ -24,7 +24,7 @@ use Rattle.lines_items.specs.Decimal.{digits_below, decimal}
 use Rattle.lines_items.specs.Items.{item}
 use Rattle.lines_mesh.specs.Mesh.{mesh_start, mesh_line}
 use Rattle.lines_flow.specs.Flows.{told, flow_line, refusal_line}
-use Rattle.lines.specs.Lines.{text_by, text_of, handed}
+use Rattle.lines.specs.Lines.{text_by, text_of}
 use Rattle.lines.specs.Replied.{told_at, record_line, record_lines}
 
 -- The method's digit stands at the end of P's first line.
@@ -71,11 +71,6 @@ printed = (mesh_of 51 ++ flows_of_p) ∷ (mesh_of 51 ++ late_text) ∷ mesh_of 5
 texts : map text_of offered ≡ printed
 unfolding tag_of six_or_seven priority_flits_at header_at tagged_at frame_at fields_from clash_at tail_at rest_at ◌then◌ body_at record_at accepted refused after records read_plan ◌when◌else◌ hops along xy on domain first_from up sum_over comes_to_from comes_to method_used latency direct_for indirect_for comes_before those allowance weight term terms highest judged judge verdict_below verdict answers each digits_below decimal item mesh_start mesh_line told flow_line refusal_line text_by
 texts = refl
-
--- A text as it is handed over: two bytes, zeros up to 3,200, and how many they are.
-handing : (take 4 (handed (7 ∷ 8 ∷ [])).bytes ≡ 7 ∷ 8 ∷ 0 ∷ 0 ∷ []) × (length (handed (7 ∷ 8 ∷ [])).bytes ≡ 3200) × ((handed (7 ∷ 8 ∷ [])).length ≡ 2)
-unfolding handed
-handing = (refl, refl, refl)
 
 -- The lines of a reply's three records: `2 bounded 62 rounds 1`, `7 late rounds 3`, `9 waits 7`.
 abbrev records_of : List ℕ

@@ -15,10 +15,11 @@ use Rattle.plan_values.specs.Values.{platform_at}
 use Rattle.plan_values.proofs.Seventh.{length_within}
 use Rattle.plan_values.specs.declared.Platform.{Platform}
 use Rattle.plan_values.specs.declared.Flow.{Flow}
-use Rattle.plan.specs.declared.Reading.{Reading}
+use Rattle.framing.specs.Returned.{number_of}
+use Rattle.framing.specs.declared.returned.Fault.{Fault}
 use Rattle.plan.specs.Legal.{flow}
 use Rattle.plan.specs.Reading.{accepted, refused, read_plan}
-use Rattle.plan.proofs.Because.{refused_exactly}
+use Rattle.plan.proofs.Because.{refused_for}
 use Rattle.plan.proofs.Enough.{decided}
 use Rattle.plan.proofs.Exact.{accepted_exactly}
 use Rattle.model.specs.Verdicts.{answer_to, answers}
@@ -36,7 +37,7 @@ use Rattle.lines.proofs.Replied.{line_read}
 
 -- "It reads at most 2,048 bytes of standard input, which always decides the reply": they decide the text.
 pub text_decided : (bytes : List ℕ) → text_of (take 2048 bytes) ≡ text_of bytes
-text_decided bytes = ap (λ (r : Reading). text_by r.outcome r.plan) (decided bytes)
+text_decided bytes = ap text_by (decided bytes)
 
 -- ==== "A small program prints the same result as text."
 -- The text is the mesh's line and those of the n records of a reply of `long` bytes.
@@ -86,9 +87,9 @@ module _ (bytes held : List ℕ) where
       one_of_three = λ k l. ((demand_2 bytes held f).each k l).one_of_three;
     }
 
-  refused_text : (number place : ℕ) → read_plan bytes ≡ refused number place → text_of bytes ≡ refusal_line number place
+  refused_text : (fault : Fault) (place : ℕ) → read_plan bytes ≡ refused fault place → text_of bytes ≡ refusal_line (number_of fault) place
   unfolding text_by refused
-  refused_text number place e = rw e
+  refused_text fault place e = rw e
 
   -- Text and reply say the same, whatever the bytes are.
   pub same_as_the_reply : 1027 ≤ length held → SameAsReply bytes (returned bytes (length held)) (left bytes held) (text_of bytes)
@@ -99,5 +100,5 @@ module _ (bytes held : List ℕ) where
     where
       go : {r : Returned} {is : List ℕ} → Offered bytes held r is → r.number ≢ 0 → text_of bytes ≡ refusal_line r.number r.value
       go (analysed f answer right) h = absurd (h refl)
-      go (sent_back number place w n h) q = refused_text number place ((refused_exactly bytes number place).1 w)
+      go (sent_back number place w n h) q = let (fault, number_is, e) = refused_for bytes number place w in refused_text fault place e ∙ ap (λ (n : ℕ). refusal_line n place) number_is
       go (too_short p fs laid legal h) q = absurd (omega (arith, legal.few))

@@ -1,53 +1,47 @@
 // The text that `bounds` prints (document 01, "The program `bounds`").
 #![tactic(auto)]
 
-ghost use Rattle.std.specs.Prelude.{◌≡◌, ◌+◌, ◌*◌, ◌≤◌, length};
-ghost use Rattle.io.specs.Counts.{IsPrefixLen};
-ghost use Rattle.lines.specs.Lines.{text_of, handed};
+ghost use Rattle.std.specs.Prelude.{◌≡◌, ◌+◌, ◌*◌, ◌≤◌, ◌++◌, length};
+ghost use Rattle.lines.specs.Lines.{text_of};
 ghost use Rattle.lines.specs.Replied.{record_lines};
-ghost use Rattle.lines_items.specs.Written.{Written};
 
 use analyser::analyse;
+use framing_reader::Reader;
 use lines_flow::{put_flow, put_refusal};
 use lines_mesh::put_mesh;
 use plan_values::platform_at;
 use reply::answer_at;
 
-// The text's bytes are the first `length`; zeros stand behind them. There is room for 64 flows.
-#[derive(Clone, Copy)]
-pub struct Text {
-    pub bytes: [u8; 3200],
-    pub length: usize,
-}
+// There is room for 64 flows.
+pub type Text = lines_items::Text<3200>;
 
-// A line for each of the first records of a reply.
-fn put_flows(out: &mut [u8], at: usize, reply: &[u8], count: usize) -> usize
-    requires { (at + 48 * count + 32 ≤ length out.old) × (16 * count ≤ length reply.now) }
-    ensures { Written out.old at (record_lines reply.now count) out.new result }
+// A line for each of the first records of a reply, which are bytes: each is read by its number.
+#[tactic(auto, using(crate::proofs::Listing::listing_none, crate::proofs::Listing::listing_more))]
+fn put_flows(text: &mut Text, reply: &[u8], count: usize)
+    requires { (length text.old + 48 * count + 32 ≤ 3200) × (16 * count ≤ length reply.now) }
+    ensures { (text.new ≡ text.old ++ record_lines reply.now count) × (length text.new ≤ length text.old + 48 * count) }
 {
-    let mut next = at;
-    let mut k: usize = 0;
-    while k < count {
-        next = put_flow(out, next, answer_at(reply, k));
-        k += 1;
+    for k in 0..count {
+        put_flow(text, answer_at(reply, k));
     }
-    next
 }
 
 // What is printed for any bytes: a line for the mesh and one for each flow, or the refusal's alone.
 // A reply of 1,027 bytes has room for 64 flows; the mesh's values stand in the plan, not in the reply.
 pub fn text_of(bytes: &[u8]) -> Text
-    ensures { (result ≡ handed (text_of bytes.now)) × (result.length ≤ 3200) × IsPrefixLen result.length result.bytes }
+    ensures { (result ≡ text_of bytes.now) × (length result ≤ 3200) }
 {
-    let mut out = [0u8; 3200];
+    let mut text = Text::new();
     let mut reply = [0u8; 1027];
-    let returned = analyse(bytes, &mut reply);
-    if 0 < returned.number {
-        let length = put_refusal(&mut out, 0, returned.number, returned.value);
-        return Text { bytes: out, length };
-    }
-    let mesh = put_mesh(&mut out, 0, platform_at(bytes, 0));
-    let count = (returned.value - 3) / 16;
-    let length = put_flows(&mut out, mesh, &reply, count);
-    Text { bytes: out, length }
+    let size = match analyse(bytes, &mut reply) {
+        Ok(size) => size,
+        Err(refusal) => {
+            put_refusal(&mut text, refusal);
+            return text;
+        }
+    };
+    put_mesh(&mut text, platform_at(Reader::new(bytes, 0)));
+    let count = (size - 3) / 16;
+    put_flows(&mut text, &reply, count);
+    text
 }

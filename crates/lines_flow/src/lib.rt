@@ -1,59 +1,61 @@
 // A flow's line and a refusal's.
 #![tactic(auto)]
 
-ghost use Rattle.std.specs.Prelude.{◌+◌, ◌≤◌, length};
-ghost use Rattle.lines_items.specs.Written.{Written};
+ghost use Rattle.std.specs.Prelude.{◌≡◌, ◌+◌, ◌≤◌, ◌++◌, length};
+ghost use Rattle.framing.specs.Returned.{number_of};
 ghost use Rattle.lines_flow.specs.Flows.{told, flow_line, refusal_line};
 
-use framing::copy::copy_in;
-use lines_items::{put_item, put_number, put_two};
+use framing::returned::Refusal;
+use lines_items::{LINE_END, Text};
 use model::{Answer, Verdict};
 
-const BOUNDED: [u8; 9] = *b" bounded ";
+// No Display prints the lines: document 01 names constant byte strings, copied into the line.
+const BOUNDED: &[u8] = b" bounded ";
 
-const LATE: [u8; 5] = *b" late";
+const LATE: &[u8] = b" late";
 
-const WAITS: [u8; 7] = *b" waits ";
+const WAITS: &[u8] = b" waits ";
 
-const ROUNDS: [u8; 8] = *b" rounds ";
+const ROUNDS: &[u8] = b" rounds ";
 
-const REFUSED: [u8; 8] = *b"refused ";
+const REFUSED: &[u8] = b"refused ";
 
-const AT: [u8; 4] = *b" at ";
+const AT: &[u8] = b" at ";
 
-const LINE_END: [u8; 1] = *b"\n";
-
-fn put_verdict(out: &mut [u8], at: usize, v: Verdict) -> usize
-    requires { at + 50 ≤ length out.old }
-    ensures { Written out.old at (told v) out.new result × (result ≤ at + 37) }
+#[tactic(auto, using(lines_items::proofs::Chain::chain), unfolding(crate::specs::Flows::told))]
+// A match: the three verdicts are a closed list.
+fn put_verdict<const N: usize>(text: &mut Text<N>, v: Verdict)
+    requires { length text.old + 50 ≤ N }
+    ensures { (text.new ≡ text.old ++ told v) × (length text.new ≤ length text.old + 37) }
 {
     match v {
-        Verdict::Bounded(bound, rounds) => put_two(out, at, &BOUNDED, bound, &ROUNDS, rounds),
+        Verdict::Bounded(bound, rounds) => text.push_two(BOUNDED, bound, ROUNDS, rounds),
         Verdict::Late(rounds) => {
-            let next = copy_in(out, at, &LATE);
-            put_item(out, next, &ROUNDS, rounds)
+            text.push_word(LATE);
+            text.push_item(ROUNDS, rounds);
         }
-        Verdict::Waits(id) => put_item(out, at, &WAITS, id as u32),
+        Verdict::Waits(id) => text.push_item(WAITS, id.into()),
     }
 }
 
-pub fn put_flow(out: &mut [u8], at: usize, a: Answer) -> usize
-    requires { at + 80 ≤ length out.old }
-    ensures { Written out.old at (flow_line a) out.new result × (result ≤ at + 48) }
+pub fn put_flow<const N: usize>(text: &mut Text<N>, a: Answer)
+    requires { length text.old + 80 ≤ N }
+    ensures { (text.new ≡ text.old ++ flow_line a) × (length text.new ≤ length text.old + 48) }
 {
-    let id = put_item(out, at, b"", a.id as u32);
-    let v = a.verdict;
-    let verdict = put_verdict(out, id, v);
-    copy_in(out, verdict, &LINE_END)
+    text.push_number(a.id.into());
+    put_verdict(text, a.verdict);
+    text.push_word(LINE_END);
 }
 
 // A place may be beyond four bytes.
-pub fn put_refusal(out: &mut [u8], at: usize, number: u8, place: usize) -> usize
-    requires { at + 80 ≤ length out.old }
-    ensures { Written out.old at (refusal_line number place) out.new result }
+pub fn put_refusal<const N: usize>(text: &mut Text<N>, refusal: Refusal)
+    requires { length text.old + 80 ≤ N }
+    ensures { (text.new ≡ text.old ++ refusal_line (number_of refusal.0) refusal.1) × (length text.new ≤ length text.old + 43) }
 {
-    let refused = put_item(out, at, &REFUSED, number as u32);
-    let next = copy_in(out, refused, &AT);
-    let place = put_number(out, next, place as u64);
-    copy_in(out, place, &LINE_END)
+    let Refusal(fault, place) = refusal;
+    let number = u8::from(fault);
+    text.push_item(REFUSED, number.into());
+    text.push_word(AT);
+    text.push_number(place as u64); // there is no From: a usize may be wider elsewhere
+    text.push_word(LINE_END);
 }

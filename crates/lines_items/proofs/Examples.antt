@@ -2,11 +2,12 @@
 use mathlib.Core.Path.{◌≡◌, refl, ap}
 use mathlib.Core.List.{[], ◌∷◌, ◌++◌, map}
 use native.Mathlib.Omega.{arith}
-use lib.ListN.{get_or}
+use lib.ListN.{length, take, get_or}
 use Rattle.lines_items.specs.Words.{mesh_word, by_word, link_word, route_word, buffer_word, method_word, bounded_word, late_word, waits_word, rounds_word, refused_word, at_word, line_end}
 use Rattle.lines_items.specs.Decimal.{digits_below, decimal}
 use Rattle.lines_items.specs.Items.{item}
 use Rattle.lines_items.specs.Written.{Written}
+use Rattle.lines_items.specs.Handed.{handed}
 
 -- "Numbers are decimal": 0, 9, 10, 100, 4207 and 65534.
 decimals :
@@ -44,3 +45,7 @@ not_written = (
   λ w. omega (arith, w.inside),
   λ w. omega (arith, ap (λ held. get_or held 0 0) w.held_is),
 )
+
+-- A text as it is handed over: two bytes, zeros up to 3,200, and how many they are.
+handing : (take 4 (handed 3200 (7 ∷ 8 ∷ [])).bytes ≡ 7 ∷ 8 ∷ 0 ∷ 0 ∷ []) × (length (handed 3200 (7 ∷ 8 ∷ [])).bytes ≡ 3200) × ((handed 3200 (7 ∷ 8 ∷ [])).length ≡ 2)
+handing = (refl, refl, refl)

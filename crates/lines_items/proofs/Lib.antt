@@ -1,3 +1,4 @@
-mod Digits
+pub mod Digits
+mod Pushing
 pub mod Chain
 mod Examples

@@ -3,3 +3,4 @@ pub mod Words
 pub mod Decimal
 pub mod Items
 pub mod Written
+pub mod Handed

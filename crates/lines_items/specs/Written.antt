@@ -1,4 +1,4 @@
--- What every writer of a part of the text promises.
+-- What a writer of a part of the text does to the fields of a text: `Pushing.written`.
 use Rattle.std.specs.Prelude.{ℕ, ◌+◌, ◌≤◌, ◌≡◌, List, length}
 use Rattle.framing.specs.Put.{put}
 

@@ -3,7 +3,7 @@ use Prim.Native.Nat.{ℕ, zero, suc, ◌+◌, ◌≤◌, ◌<◌}
 use mathlib.Core.Path.{◌≡◌, refl, ap, ◌∙◌}
 use mathlib.Core.List.{List, [], ◌∷◌, ◌++◌, append_assoc}
 use native.Mathlib.Omega.{arith}
-use lib.ListN.{length, get_or, length-append, get_or-append}
+use lib.ListN.{length, get_or, length-append}
 use lib.Seq.{get_or-append-add}
 use Rattle.mesh.specs.declared.spots.Spots.{Spots}
 use Rattle.mesh.specs.Mesh.{distance, ejection, hops, along, along_column, xy}
@@ -20,9 +20,6 @@ unfolding hops
 get_d_hops at zero k h = absurd (omega arith)
 get_d_hops at (suc n) zero h = refl
 get_d_hops at (suc n) (suc k) h = get_d_hops (λ k. at (suc k)) n k (omega arith)
-
-pub get_d_front : (xs ys : List ℕ) (i : ℕ) → i < length xs → get_or (xs ++ ys) i 0 ≡ get_or xs i 0
-get_d_front xs ys i = get_or-append xs ys 0 i
 
 pub get_d_back : (xs ys : List ℕ) (i k : ℕ) → i ≡ length xs + k → get_or (xs ++ ys) i 0 ≡ get_or ys k 0
 get_d_back xs ys i k e = ap (λ (j : ℕ). get_or (xs ++ ys) j 0) e ∙ get_or-append-add xs ys k 0

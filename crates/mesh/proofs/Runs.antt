@@ -5,10 +5,10 @@ use mathlib.Core.List.{List, ◌++◌}
 use mathlib.Core.Logic.{◌⊎◌, inl, inr, ◌↔◌}
 use native.Mathlib.Omega.{arith}
 use native.Mathlib.Decide.{dec_lt}
-use lib.ListN.{length, get_or, length-append}
+use lib.ListN.{length, get_or, length-append, get_or-append}
 use Rattle.mesh.specs.Mesh.{hops}
 use Rattle.mesh.proofs.Spans.{Span, Run, line_span, begins, join_span}
-use Rattle.mesh.proofs.Places.{length_hops, get_d_hops, get_d_front, get_d_back}
+use Rattle.mesh.proofs.Places.{length_hops, get_d_hops, get_d_back}
 
 -- A place of a joined list stands in its front or in its back.
 data Part (xs ys : List ℕ) (p : ℕ) : Type 0 where
@@ -19,7 +19,7 @@ part : (xs ys : List ℕ) (p : ℕ) → p < length (xs ++ ys) → Part xs ys p
 part xs ys p h = go (dec_lt p (length xs))
   where
     go : Dec (p < length xs) → Part xs ys p
-    go (yes l) = front l (get_d_front xs ys p l)
+    go (yes l) = front l (get_or-append xs ys 0 p l)
     go (no g) =
         let e : p ≡ length xs + (p - length xs) = omega arith in
         back (p - length xs) e (omega (arith, length-append xs ys)) (get_d_back xs ys p (p - length xs) e)
@@ -166,7 +166,7 @@ module _
         early i j u v l =
             let f = s.run.each k l in
             rw (u, v)
-            (omega (arith, lengths), omega (arith, lengths), get_d_front a a' (x.first + k) f.0 ∙ f.2 ∙ sym (get_d_front b b' (x.first' + k) f.1))
+            (omega (arith, lengths), omega (arith, lengths), get_or-append a a' 0 (x.first + k) f.0 ∙ f.2 ∙ sym (get_or-append b b' 0 (x.first' + k) f.1))
 
         late : (i j n : ℕ) → i ≡ length a + (y.first + n) → j ≡ length b + (y.first' + n) → n < y.count → Both i j
         late i j n u v l =

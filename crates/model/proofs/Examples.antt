@@ -1,8 +1,10 @@
 -- What plan P cannot show, since its link cycles are 1, its routing cycles and jitters 0, its mesh one row, and its deadlines the periods: computed from the definitions alone.
 use Prim.Native.Nat.{ℕ}
 use mathlib.Core.Path.{◌≡◌, refl}
+use native.Mathlib.Omega.{arith}
 use mathlib.Core.List.{List, [], ◌∷◌, map}
 use lib.ListN.{drop}
+use Rattle.std.specs.Prelude.{Ok, Err}
 use Rattle.framing.specs.First.{◌when◌else◌}
 use Rattle.plan_values.specs.declared.Platform.{Platform}
 use Rattle.plan_values.specs.declared.Flow.{Flow}
@@ -17,6 +19,7 @@ use Rattle.model.specs.declared.Verdict.{Verdict}
 use Rattle.model.specs.declared.Verdict.TheVariants.{Bounded, Late, Waits}
 use Rattle.model.proofs.SameAnswers.{with_more}
 use Rattle.model.specs.Links.{pair_of}
+use Rattle.model.specs.Numbered.{Numbered}
 use Rattle.model.specs.Latency.{method_used, with_method, latency}
 use Rattle.model.specs.Interference.{direct_for, indirect_for, comes_before, those}
 use Rattle.model.specs.Delays.{allowance, weight, term, terms}
@@ -207,3 +210,22 @@ packets_for_9 :
     ≡ 2 ∷ 3 ∷ 3 ∷ 4 ∷ []
 unfolding hops along xy on domain first_from up sum_over comes_to_from comes_to method_used ◌when◌else◌ latency direct_for indirect_for comes_before those allowance weight term terms highest judged judge verdict_below verdict answers
 packets_for_9 = refl
+
+-- "Method 1 is SB, 2 is XLWX, 3 is IBN", read from a number: the numbers beside them are no method's, and are told as they are.
+numbered : Numbered 1 (Ok SB) × Numbered 2 (Ok XLWX) × Numbered 3 (Ok IBN) × Numbered 0 (Err (record { 0 = 0 })) × Numbered 4 (Err (record { 0 = 4 }))
+numbered = (refl, refl, refl, (refl, λ e. omega (arith, e), λ e. omega (arith, e), λ e. omega (arith, e)), (refl, λ e. omega (arith, e), λ e. omega (arith, e), λ e. omega (arith, e)))
+
+-- .. and 1, 2 and 3 are read, each as its own.
+numbered_not :
+    (Numbered 1 (Err (record { 0 = 1 })) → ⊥)
+    × (Numbered 2 (Err (record { 0 = 2 })) → ⊥)
+    × (Numbered 3 (Err (record { 0 = 3 })) → ⊥)
+    × (Numbered 2 (Ok SB) → ⊥)
+    × (Numbered 4 (Err (record { 0 = 0 })) → ⊥)
+numbered_not = (
+  λ (_, a, b, c). a refl,
+  λ (_, a, b, c). b refl,
+  λ (_, a, b, c). c refl,
+  λ e. omega (arith, e),
+  λ (e, a, b, c). omega (arith, e),
+)

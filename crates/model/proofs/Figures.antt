@@ -8,13 +8,14 @@ use lib.ListN.{take, set}
 use Rattle.framing.specs.First.{◌when◌else◌}
 use Rattle.framing.specs.Put.{put}
 use Rattle.plan.specs.declared.Plan.{Plan}
-use Rattle.framing.specs.declared.returned.Outcome.{Outcome}
-use Rattle.framing.specs.declared.returned.Outcome.TheVariants.{Accepted, Refused}
+use Rattle.std.specs.Prelude.{Result, Ok, Err}
+use Rattle.framing.specs.Returned.{outcome}
+use Rattle.framing.specs.declared.returned.Refusal.{Refusal}
 use Rattle.plan_table.specs.Table.{tag_of, six_or_seven}
 use Rattle.plan_values.specs.Values.{priority_flits_at}
 use Rattle.plan_checks.specs.Checks.{header_at, tagged_at, frame_at, clash_at, tail_at, rest_at}
 use Rattle.plan.specs.Records.{fields_from, ◌then◌, body_at, record_at}
-use Rattle.plan.specs.Reading.{accepted, refused, after, records, read_plan}
+use Rattle.plan.specs.Reading.{accepted, refused, plan_in, after, records, read_plan}
 use Rattle.plan.specs.PlanP.{P, with_seventh}
 use Rattle.mesh.specs.Mesh.{hops, along, xy}
 use Rattle.mesh.specs.Shared.{on, domain, first_from}
@@ -86,16 +87,16 @@ table =
     ∷ []
 
 -- The answers to a plan as it was read, if it was accepted; and the verdicts in the lines of the flow with an id.
-unfoldable pub answered : Outcome → Plan → List Answer
-answered Accepted plan = answers plan.platform (take plan.count plan.flows)
-answered (Refused number place) plan = []
+unfoldable pub answered : Result (Unit {0}) Refusal → Plan → List Answer
+answered (Ok accepted) plan = answers plan.platform (take plan.count plan.flows)
+answered (Err refusal) plan = []
 
 unfoldable pub lines_of : ℕ → List Answer → List Verdict
 lines_of id [] = []
 lines_of id (a ∷ rest) = cond (eqb a.id id) (a.verdict ∷ lines_of id rest) (lines_of id rest)
 
 abbrev pub results_in : List ℕ → ℕ → List Verdict
-results_in bytes flow = lines_of flow (answered (read_plan bytes).outcome (read_plan bytes).plan)
+results_in bytes flow = lines_of flow (answered (outcome (read_plan bytes)) (plan_in (read_plan bytes)))
 
 -- Document 02, L7: P with a seventh byte. With 2 there C is 64, 206 and 134, and B is 30 as in P; with 1 and 8 it is 133 and 140 for flow 5.
 abbrev pub seventh_table : List Row

@@ -10,6 +10,8 @@ use Rattle.plan_values.specs.declared.Platform.{Platform}
 use Rattle.plan_values.specs.declared.Flow.{Flow}
 use Rattle.plan.specs.Legal.{LegalPlatform, LegalFlow, Legal, flow}
 use Rattle.mesh.proofs.Theorems.{route_most}
+use Rattle.std.proofs.lemmas.List.Elements.{All-cons}
+use Rattle.std.proofs.lemmas.List.Sums.{sum_by-cons}
 use Rattle.recurrence.specs.Rounding.{up}
 use Rattle.recurrence.specs.Sums.{sum_over}
 use Rattle.recurrence.specs.Recurrence.{Term, delay, right_side}
@@ -79,20 +81,20 @@ module _ (small big : Flow → Bool) (more : (k : Flow) → small k ≡ true →
       go :
           (a b : Bool) → (a ≡ true → b ≡ true) → hit_sum cost R (those small fs) ≤ sum_over (map t (those big fs)) (λ t. delay t R) →
           hit_sum cost R (keep a k (those small fs)) ≤ sum_over (map t (keep b k (those big fs))) (λ t. delay t R)
-      go true true h rest = omega (arith, one_below k)
+      go true true h rest = omega (arith, one_below k, sum_by-cons (λ j. hits R j * cost j) k (those small fs), sum_by-cons (λ u. delay u R) (t k) (map t (those big fs)))
       go true false h rest = absurd (false≢true (h refl))
-      go false true h rest = omega arith
+      go false true h rest = omega (arith, sum_by-cons (λ u. delay u R) (t k) (map t (those big fs)))
       go false false h rest = rest
 
 -- What one flow of a plan brings to a sum over those that pass a test.
 pub those_one : (test : Flow → Bool) (figure : Flow → ℕ) (fs : List Flow) (k : ℕ) → k < length fs → test (flow fs k) ≡ true → figure (flow fs k) ≤ sum_over (those test fs) figure
 unfolding those sum_over
 those_one test figure [] k l e = absurd (omega arith)
-those_one test figure (f ∷ fs) zero l e = rw e (omega arith)
+those_one test figure (f ∷ fs) zero l e = rw e (omega (arith, sum_by-cons figure f (those test fs)))
 those_one test figure (f ∷ fs) (suc k) l e = go (test f) (those_one test figure fs k (omega arith) e)
   where
     go : (b : Bool) → figure (flow fs k) ≤ sum_over (those test fs) figure → figure (flow fs k) ≤ sum_over (keep b f (those test fs)) figure
-    go true rest = omega arith
+    go true rest = omega (arith, sum_by-cons figure f (those test fs))
     go false rest = rest
 
 -- A term's weight is at least the flow's latency.
@@ -186,11 +188,11 @@ module _ (p : Platform) (fs : List Flow) (answer : Flow → Verdict) (j : Flow) 
 
 fair_those : (test : Flow → Bool) (t : Flow → Term) (fs : List Flow) → ((k : ℕ) → k < length fs → test (flow fs k) ≡ true → Fair (t (flow fs k))) → AllFair (map t (those test fs))
 unfolding those
-fair_those test t [] h = tt
+fair_those test t [] h = λ k d l. absurd (omega (arith, l))
 fair_those test t (f ∷ fs) h = go (test f) (h 0 (omega arith)) (fair_those test t fs (λ k l. h (suc k) (omega arith)))
   where
     go : (b : Bool) → (b ≡ true → Fair (t f)) → AllFair (map t (those test fs)) → AllFair (map t (keep b f (those test fs)))
-    go true e rest = (e refl, rest)
+    go true e rest = All-cons Fair (t f) (map t (those test fs)) (e refl) rest
     go false e rest = rest
 
 pub either : (v : Verdict) → (is_bounded v ≡ false → ⊥) → is_bounded v ≡ true

@@ -15,6 +15,7 @@ use Rattle.plan.specs.Legal.{Legal, flow}
 use Rattle.plan.proofs.Exact.{legal}
 use Rattle.recurrence.specs.declared.Settled.{Settled}
 use Rattle.recurrence.specs.declared.Settled.TheVariants.{Bounded as BoundedAt, Late as LateAfter}
+use Rattle.std.proofs.lemmas.List.Folds.{fold-map}
 use Rattle.recurrence.specs.Rounding.{up}
 use Rattle.recurrence.specs.Sums.{sum_over}
 use Rattle.recurrence.specs.Recurrence.{Term, released}
@@ -128,8 +129,7 @@ pub record RoundsLine (p : Platform) (fs : List Flow) (i : Flow) (a : Answer) : 
 
 pub sum_map : {A B : Type 0} (g : A → B) (f : B → ℕ) (l : List A) → sum_over (map g l) f ≡ sum_over l (λ a. f (g a))
 unfolding sum_over
-sum_map g f [] = refl
-sum_map g f (a ∷ l) = rw (sum_map g f l)
+sum_map g f l = fold-map (λ n b. n + f b) g 0 l
 
 rounds_same : (o : Settled) → rounds_in (settled_verdict o) ≡ rounds_of o
 rounds_same (BoundedAt r k) = refl

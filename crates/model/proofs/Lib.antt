@@ -3,6 +3,7 @@ pub mod Links
 pub mod Those
 pub mod Judged
 pub mod Verdicts
+pub mod Bounds
 pub mod Fits
 pub mod Sides
 pub mod PaperSets
@@ -14,6 +15,7 @@ pub mod Paper
 pub mod SameAnswers
 pub mod PriorityFlits
 pub mod Methods
+pub mod Numbered
 pub mod MethodByte
 pub mod Figures
 mod Examples

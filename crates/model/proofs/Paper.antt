@@ -14,6 +14,7 @@ use Rattle.plan_values.specs.declared.Flow.{Flow}
 use Rattle.plan.specs.Legal.{LegalPlatform, LegalFlow, Legal, flow}
 use Rattle.plan.specs.Reading.{accepted, read_plan}
 use Rattle.plan.proofs.Exact.{legal}
+use Rattle.std.proofs.lemmas.List.Sums.{sum_by-cons}
 use Rattle.recurrence.specs.Rounding.{up}
 use Rattle.recurrence.specs.Sums.{sum_over}
 use Rattle.recurrence.specs.Recurrence.{delay, right_side}
@@ -92,7 +93,7 @@ sum_is S test g h (f ∷ fs) sets figures =
     rw (sets 0 (omega arith)) (go (test f) (figures 0 (omega arith)) (sum_is S test g h fs (λ k l. sets (suc k) (omega arith)) (λ k l. figures (suc k) (omega arith))))
   where
     go : (b : Bool) → (b ≡ true → g f ≡ h f) → sum fs S g ≡ sum_over (those test fs) h → cond b (g f) 0 + sum fs S g ≡ sum_over (keep b f (those test fs)) h
-    go true e rest = rw (e refl, rest)
+    go true e rest = omega (arith, e refl, rest, sum_by-cons h f (those test fs))
     go false e rest = omega (arith, rest)
 
 -- ---- the equations

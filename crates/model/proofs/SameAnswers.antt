@@ -8,6 +8,7 @@ use mathlib.Core.List.{List, [], ◌∷◌, map}
 use mathlib.Core.Option.{Option, none, some}
 use lib.Dec.{ltb}
 use lib.ListN.{length}
+use Rattle.std.proofs.lemmas.Simd.{map-map}
 use Rattle.plan_values.specs.declared.Platform.{Platform}
 use Rattle.plan_values.specs.declared.Flow.{Flow}
 use Rattle.recurrence.specs.Recurrence.{Term, right_side}
@@ -67,10 +68,6 @@ module _ (k m : ℕ) (p : Platform) (used : method_used (with_method m p) ≡ me
       go true = refl
       go false = refl
 
-  map_map : {A B : Type 0} (g : A → Flow) (h : Flow → B) (l : List A) → map (λ a. h (g a)) l ≡ map h (map g l)
-  map_map g h [] = refl
-  map_map g h (a ∷ l) = ap (λ rest. h (g a) ∷ rest) (map_map g h l)
-
   -- the one of highest priority, if there is one
   abbrev option_up : Option Flow → Option Flow
   option_up none = none
@@ -128,7 +125,7 @@ module _ (k m : ℕ) (p : Platform) (used : method_used (with_method m p) ≡ me
           let m = method_used p in
           ap (λ (n : Method). terms n q fs (λ j. bound_in (a j)) i) used
           ∙ (λ x. map (λ j. (ap (λ (v : Verdict). term m q fs (bound_in v) i j) (same j) ∙ term_same m (bound_in (b (up j))) i j) x) (those (direct_for q i) fs))
-          ∙ map_map up (λ j. term m p gs (bound_in (b j)) (up i) j) (those (direct_for q i) fs)
+          ∙ sym (map-map (λ j. term m p gs (bound_in (b j)) (up i) j) up (those (direct_for q i) fs))
           ∙ ap (map (λ j. term m p gs (bound_in (b j)) (up i) j)) (those_up (direct_for q i) (direct_for p (up i)) (direct_same i) fs)
 
       holds_same : (i j : Flow) → holds_up q a i j ≡ holds_up p b (up i) (up j)
@@ -152,4 +149,4 @@ module _ (k m : ℕ) (p : Platform) (used : method_used (with_method m p) ≡ me
 
     pub answers_same : answers q fs ≡ answers p gs
     unfolding answers verdict
-    answers_same = (λ x. map (λ i. record { id = i.id; verdict = below_same (suc i.priority) i x }) fs) ∙ map_map up (answer_to p gs) fs
+    answers_same = (λ x. map (λ i. record { id = i.id; verdict = below_same (suc i.priority) i x }) fs) ∙ sym (map-map (answer_to p gs) up fs)

@@ -3,6 +3,7 @@ use Prim.Native.Nat.{ℕ, ◌<◌}
 use mathlib.Core.Path.{◌≡◌, ap, ◌∙◌}
 use mathlib.Core.List.{List, map}
 use native.Mathlib.Omega.{arith}
+use Rattle.std.proofs.lemmas.List.{get_or_default}
 use lib.ListN.{length, get_or, length-map, get_or-append, get_or-map}
 use Rattle.plan_values.specs.declared.Platform.{Platform}
 use Rattle.plan_values.specs.declared.Flow.{Flow}
@@ -12,13 +13,12 @@ use Rattle.plan.specs.Legal.{flow}
 use Rattle.mesh.specs.declared.Pair.{Pair}
 use Rattle.model.specs.Links.{pair_of}
 use Rattle.pairs.specs.Pairs.{no_pair, no_row, pair_table}
-use Rattle.pairs.proofs.Tables.{any_default}
 
 pub filled_cell : {A : Type 0} (blank : A) (make : Flow → A) (fs : List Flow) (k : ℕ) → k < length fs → get_or (padded blank (map make fs)) k blank ≡ make (flow fs k)
 filled_cell blank make fs k h =
     let n = length-map fs make in
     get_or-append (map make fs) _ blank k (omega arith)
-    ∙ any_default (map make fs) k blank (make blank_flow) (omega arith)
+    ∙ get_or_default (map make fs) k blank (make blank_flow) (omega arith)
     ∙ get_or-map make fs k blank_flow
 
 -- "for every ordered pair of flows": row i, cell j is the pair of the flows i and j, i = j included

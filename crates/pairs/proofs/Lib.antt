@@ -1,4 +1,3 @@
 mod Filling
-pub mod Tables
 pub mod Cells
 mod Standing

@@ -1,27 +1,20 @@
 -- Where the flows of a plan stand, and what they share: the pair table.
-use Prim.Native.Nat.{ℕ, ◌<◌}
+use Prim.Native.Nat.{ℕ}
 use native.Mathlib.Omega.{arith}
 use mathlib.Core.Path.{◌≡◌, ap, ◌∙◌}
 use mathlib.Core.List.{List, map, map-map}
-use lib.ListN.{length, get_or, take, length-map}
-use lib.Seq.{take_at, length-take-le, get_or-take}
+use lib.ListN.{length, take, length-map}
+use lib.Seq.{take_at, length-take-le}
 use Rattle.plan_values.specs.declared.Platform.{Platform}
 use Rattle.plan_values.specs.declared.Flow.{Flow}
 use Rattle.plan.specs.Padded.{padded}
-use Rattle.plan_values.specs.Values.{blank_flow}
-use Rattle.plan.specs.Legal.{flow}
 use Rattle.mesh.specs.declared.spots.Spots.{Spots}
 use Rattle.mesh.specs.declared.Pair.{Pair}
-use Rattle.mesh.specs.Mesh.{Ends}
 use Rattle.mesh.specs.Shared.{Shares}
 use Rattle.mesh.specs.Halves.{between}
-use Rattle.mesh.proofs.Theorems.{ends_on_mesh}
-use Rattle.model.proofs.Links.{ends_of}
 use Rattle.pairs.specs.Scene.{Scene}
 use Rattle.pairs.specs.Pairs.{no_pair, no_row, pair_table}
-use Rattle.pairs.specs.Spots.{spots_in, no_spots, AllOnMesh, shared_by, row_of}
-use Rattle.pairs.proofs.Tables.{any_default}
-use Rattle.pairs.proofs.Cells.{filled_cell}
+use Rattle.pairs.specs.Spots.{spots_in, no_spots, shared_by, row_of}
 
 -- ---- what mesh promises of two flows, as a value
 pub shared_is : (a b : Spots) {r : Pair} → Shares (between a) (between b) r.count r.first → r ≡ shared_by a b
@@ -32,25 +25,10 @@ module _ {p : Platform} {flows : List Flow} {count : ℕ} (w : Scene p flows cou
   many : length (take count flows) ≡ count
   many = length-take-le count flows (omega (arith, w.few, w.room))
 
-  pub flow_ends : (k : ℕ) (d : Flow) → k < count → Ends p.columns (get_or flows k d).source (get_or flows k d).destination
-  flow_ends k d h =
-      let e : flow (take count flows) k ≡ get_or flows k d = get_or-take count flows k blank_flow h ∙ any_default flows k blank_flow d (omega (arith, w.few, w.room)) in
-      rw e at (ends_of w.legal k (omega (arith, many)))
-
   -- ---- where they stand
   module _ {spots : List Spots} (e : spots ≡ padded no_spots (map (spots_in p) (take count flows))) where
     spots_are : take count spots ≡ map (spots_in p) (take count flows)
     spots_are = ap (take count) e ∙ take_at (map (spots_in p) (take count flows)) _ count (length-map (take count flows) (spots_in p) ∙ many)
-
-    pub spots_on_mesh : AllOnMesh spots count
-    spots_on_mesh =
-        record {
-          few = w.few;
-          each = λ k h.
-              let f : get_or spots k no_spots ≡ spots_in p (flow (take count flows) k) =
-              ap (λ (l : List Spots). get_or l k no_spots) e ∙ filled_cell no_spots (spots_in p) (take count flows) k (omega (arith, many)) in
-              rw f (ends_on_mesh (ends_of w.legal k (omega (arith, many))));
-        }
 
     -- the rows of what they share are the table
     pub table_is : padded no_row (map (row_of (take count spots)) (take count spots)) ≡ pair_table p (take count flows)

@@ -1,12 +1,12 @@
 -- What the table is worked out from: where each flow's source and destination stand.
-use Rattle.std.specs.Prelude.{ℕ, ◌≤◌, ◌<◌, List, map, get_or}
+use Rattle.std.specs.Prelude.{List, map}
 use Rattle.plan_values.specs.declared.Platform.{Platform}
 use Rattle.plan_values.specs.declared.Flow.{Flow}
 use Rattle.plan.specs.Padded.{padded}
 use Rattle.mesh.specs.declared.spots.Spots.{Spots}
 use Rattle.mesh.specs.declared.Pair.{Pair}
 use Rattle.mesh.specs.Shared.{shared_count, first_shared}
-use Rattle.mesh.specs.Halves.{spots_of, OnMesh, between}
+use Rattle.mesh.specs.Halves.{spots_of, between}
 use Rattle.pairs.specs.Pairs.{no_pair}
 
 -- Those of a plan's flow.
@@ -16,11 +16,6 @@ spots_in p f = spots_of p.columns f.source f.destination
 -- What stands behind the plan's.
 abbrev pub no_spots : Spots
 no_spots = record { source = record { row = 0; column = 0 }; destination = record { row = 0; column = 0 } }
-
--- All of them stand on the mesh.
-pub record AllOnMesh (spots : List Spots) (count : ℕ) : Type 0 where
-  pub few : count ≤ 64
-  pub each : (k : ℕ) → k < count → OnMesh (get_or spots k no_spots)
 
 -- What the routes between two flows' spots share; `pair_of` of `model` says the same of the flows.
 abbrev pub shared_by : Spots → Spots → Pair

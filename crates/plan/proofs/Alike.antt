@@ -1,4 +1,5 @@
 -- Byte strings that begin alike are read alike, up to the place where they may differ.
+use Rattle.plan.specs.declared.Plan.{Plan}
 use Prim.Native.Nat.{ℕ, zero, suc, ◌+◌, ◌-◌, ◌*◌, ◌≤◌, ◌<◌}
 use native.Mathlib.Omega.{arith}
 use native.Mathlib.Decide.{ℕ_discrete}
@@ -22,14 +23,12 @@ use Rattle.plan.specs.Reading.{records, read_plan}
 use Rattle.plan.specs.Layout.{place}
 use Rattle.plan_values.specs.declared.Platform.{Platform}
 use Rattle.plan_values.specs.declared.Flow.{Flow}
-use Rattle.plan.specs.declared.Reading.{Reading}
-use Rattle.plan_checks.specs.declared.Checked.{Checked}
-use Rattle.plan_checks.specs.declared.Checked.TheVariants.{Fault, Passed}
+use Rattle.std.specs.Prelude.{Result, Ok, Err, Some, None, Option}
+use Rattle.framing.specs.declared.returned.Refusal.{Refusal}
+use Rattle.framing.specs.declared.returned.Fault.TheVariants.{Cut, WrongLength}
 use Rattle.plan_table.specs.declared.Field.{Field}
 use Rattle.plan_table.specs.declared.Kind.{Kind}
 use Rattle.plan_table.specs.declared.Kind.TheVariants.{PlatformRecord, FlowRecord, EndRecord}
-use Rattle.plan_table.specs.declared.Tag.{Tag}
-use Rattle.plan_table.specs.declared.Tag.TheVariants.{Known, Unknown}
 use Rattle.plan_checks.specs.declared.Limits.{Limits}
 use Rattle.plan.proofs.Order.{flow_room, platform_first, others_later, fine, fault_ends, platform_leads, flow_leads, end_accepts}
 use Rattle.plan_table.proofs.Lengths.{at_most_seven, size_of, filled}
@@ -56,21 +55,21 @@ module _ (s u : List ℕ) (size m : ℕ) (fits : length_at s 0 ≡ six_or_seven 
     told = two (at + 1) (omega arith)
 
     -- the body's check depends on the length, which by then is the tag's
-    body : (kind : Kind) (next : Checked) → (Fault 3 (at + 1) when is_wrong_length s at kind else Fault 1 at when is_body_cut s at else next) ≡ (Fault 3 (at + 1) when is_wrong_length u at kind else Fault 1 at when is_body_cut u at else next)
+    body : (kind : Kind) (next : Result Kind Refusal) → (Err (WrongLength, at + 1) when is_wrong_length s at kind else Err (Cut, at) when is_body_cut s at else next) ≡ (Err (WrongLength, at + 1) when is_wrong_length u at kind else Err (Cut, at) when is_body_cut u at else next)
     unfolding ◌when◌else◌
     body kind next = go (eqb (length_at u at) (body_length kind (length_at u at))) refl
       where
-        go : (b : Bool) → eqb (length_at u at) (body_length kind (length_at u at)) ≡ b → (Fault 3 (at + 1) when is_wrong_length s at kind else Fault 1 at when is_body_cut s at else next) ≡ (Fault 3 (at + 1) when is_wrong_length u at kind else Fault 1 at when is_body_cut u at else next)
+        go : (b : Bool) → eqb (length_at u at) (body_length kind (length_at u at)) ≡ b → (Err (WrongLength, at + 1) when is_wrong_length s at kind else Err (Cut, at) when is_body_cut s at else next) ≡ (Err (WrongLength, at + 1) when is_wrong_length u at kind else Err (Cut, at) when is_body_cut u at else next)
         go true e =
             let d = eqb-true (length_at u at) (body_length kind (length_at u at)) e in
             let k = body_small kind (length_at u at) in
             rw (told, e, le-ltb (length s - (at + 3)) (length_at u at) (omega arith), le-ltb (length u - (at + 3)) (length_at u at) (omega arith))
         go false e = rw (told, e)
 
-    tagged : (t : Tag) (count : ℕ) → tagged_at s at t count ≡ tagged_at u at t count
+    tagged : (t : Option Kind) (count : ℕ) → tagged_at s at t count ≡ tagged_at u at t count
     unfolding tagged_at header_at
-    tagged Unknown count = refl
-    tagged (Known kind) count = rw (body kind)
+    tagged None count = refl
+    tagged (Some kind) count = rw (body kind)
 
     frame : (count : ℕ) → frame_at s at count ≡ frame_at u at count
     unfolding frame_at ◌when◌else◌
@@ -116,17 +115,17 @@ module _ (s u : List ℕ) (size m : ℕ) (fits : length_at s 0 ≡ six_or_seven 
     rest FlowRecord ids priorities = ap (λ (f : Flow). clash_at at f ids priorities) flow
     rest EndRecord ids priorities = rw (lt-ltb (at + 3) (length s) (omega arith), lt-ltb (at + 3) (length u) (omega arith))
 
-    behind : (c : Checked) (p : Platform) (fs : List Flow) → body_at s at c p fs ≡ body_at u at c p fs
+    behind : (c : Result Kind Refusal) (p : Platform) (fs : List Flow) → body_at s at c p fs ≡ body_at u at c p fs
     unfolding body_at
-    behind (Fault number place) p fs = refl
-    behind (Passed kind) p fs =
+    behind (Err refusal) p fs = refl
+    behind (Ok kind) p fs =
         ap₂ ◌then◌
         (ap₂ (λ (l : Limits) (n : ℕ). fields_from s at kind l 3 (fields_of kind n)) (limits kind p) told ∙ fields kind (limits_at u at kind p) 3 (fields_of kind (length_at u at)) (omega (arith, filled kind (length_at u at), body_small kind (length_at u at))))
         (rest kind _ _)
 
     same_record : (p : Platform) (fs : List Flow) → record_at s at p fs ≡ record_at u at p fs
     unfolding record_at
-    same_record p fs = ap (λ (c : Checked). body_at s at c p fs) (frame (length fs)) ∙ behind (frame_at u at (length fs)) p fs
+    same_record p fs = ap (λ (c : Result Kind Refusal). body_at s at c p fs) (frame (length fs)) ∙ behind (frame_at u at (length fs)) p fs
 
   -- where a reading stands, with turns left for the records up to place m: at the first record, or behind some flows
   data Stands (fs : List Flow) (at turns : ℕ) : Type 0 where
@@ -134,31 +133,31 @@ module _ (s u : List ℕ) (size m : ℕ) (fits : length_at s 0 ≡ six_or_seven 
     going : length_at s 0 ≤ size → at ≡ place (length_at s 0) (length fs) → length fs ≤ m → length fs ≤ 64 → m < turns + length fs → Stands fs at turns
 
   -- both come to the same, or both get as far as place m with the same platform and the same m flows
-  pub data Alike : Reading → Reading → Type 0 where
-    same : {x y : Reading} → x ≡ y → Alike x y
+  pub data Alike : Result Plan Refusal → Result Plan Refusal → Type 0 where
+    same : {x y : Result Plan Refusal} → x ≡ y → Alike x y
     arrived : (turns : ℕ) (p : Platform) (fs : List Flow) → length fs ≡ m → length fs ≤ 64 → Alike (records (suc turns) s (place (length_at s 0) m) p fs) (records (suc turns) u (place (length_at s 0) m) p fs)
 
   abbrev Before : ℕ → Type 0
   Before turns = (p : Platform) (fs : List Flow) (at : ℕ) → Stands fs at turns → Alike (records turns s at p fs) (records turns u at p fs)
 
   module _ (turns : ℕ) (more : Before turns) (p : Platform) (fs : List Flow) (at : ℕ) (h : at + 23 ≤ place size m) (less : length fs < m) where
-    by_record : Stands fs at (suc turns) → (c : Checked) → record_at s at p fs ≡ c → record_at u at p fs ≡ c → Alike (records (suc turns) s at p fs) (records (suc turns) u at p fs)
-    by_record w (Fault number pl) e d = same (fault_ends s at p fs turns e ∙ sym (fault_ends u at p fs turns d))
-    by_record (start z n t) (Passed PlatformRecord) e d =
+    by_record : Stands fs at (suc turns) → (c : Result Kind Refusal) → record_at s at p fs ≡ c → record_at u at p fs ≡ c → Alike (records (suc turns) s at p fs) (records (suc turns) u at p fs)
+    by_record w (Err refusal) e d = same (fault_ends s at p fs turns e ∙ sym (fault_ends u at p fs turns d))
+    by_record (start z n t) (Ok PlatformRecord) e d =
         let o : length fs ≡ 0 = ap length n in
         let f = (fine s at p fs e).frame in
         let first : length_at s at ≡ length_at s 0 = ap (length_at s) z in
         let small : length_at s 0 ≤ size = fits (subst (λ (n : ℕ). n ≡ six_or_seven n) first f.size) in
         rw (platform_leads s at p fs turns e, platform_leads u at p fs turns d, ← platform at h, ← told at h)
         (more (platform_at s at) fs (at + 3 + length_at s at) (going small (omega arith) (omega arith) (omega arith) (omega arith)))
-    by_record (going small z l few t) (Passed PlatformRecord) e d = let o = platform_first (fine s at p fs e).frame in absurd (omega arith)
-    by_record (start z n t) (Passed FlowRecord) e d = absurd (others_later FlowRecord refl (fine s at p fs e).frame z)
-    by_record (going small z l few t) (Passed FlowRecord) e d =
+    by_record (going small z l few t) (Ok PlatformRecord) e d = let o = platform_first (fine s at p fs e).frame in absurd (omega arith)
+    by_record (start z n t) (Ok FlowRecord) e d = absurd (others_later FlowRecord refl (fine s at p fs e).frame z)
+    by_record (going small z l few t) (Ok FlowRecord) e d =
         let r = flow_room (fine s at p fs e).frame refl in
         let o = longer fs (flow_at s at) in
         rw (flow_leads s at p fs turns e, flow_leads u at p fs turns d, ← flow at h)
         (more p (fs ++ flow_at s at ∷ []) (at + 23) (going small (omega arith) (omega arith) (omega arith) (omega arith)))
-    by_record w (Passed EndRecord) e d = same (end_accepts s at p fs turns e ∙ sym (end_accepts u at p fs turns d))
+    by_record w (Ok EndRecord) e d = same (end_accepts s at p fs turns e ∙ sym (end_accepts u at p fs turns d))
 
     next : Stands fs at (suc turns) → Alike (records (suc turns) s at p fs) (records (suc turns) u at p fs)
     next w = by_record w (record_at s at p fs) refl (sym (same_record at h p fs))

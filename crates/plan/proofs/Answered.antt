@@ -1,4 +1,8 @@
 -- Every byte string gets an answer: a plan that is laid out and legal, or a refusal that document 01 lists.
+use Rattle.framing.specs.Returned.{number_of}
+use Rattle.framing.specs.declared.returned.Fault.TheVariants.{Cut}
+use Rattle.framing.specs.declared.returned.Fault.{Fault}
+use Rattle.plan.specs.declared.Plan.{Plan}
 use Prim.Native.Nat.{ℕ, zero, suc, ◌+◌, ◌≤◌, ◌<◌}
 use native.Mathlib.Omega.{arith}
 use mathlib.Core.Path.{◌≡◌, refl, sym, ap, subst}
@@ -17,9 +21,8 @@ use Rattle.plan.specs.Layout.{place, Laid}
 use Rattle.plan.specs.Refusals.{Listed}
 use Rattle.plan_values.specs.declared.Platform.{Platform}
 use Rattle.plan_values.specs.declared.Flow.{Flow}
-use Rattle.plan.specs.declared.Reading.{Reading}
-use Rattle.plan_checks.specs.declared.Checked.{Checked}
-use Rattle.plan_checks.specs.declared.Checked.TheVariants.{Fault, Passed}
+use Rattle.std.specs.Prelude.{Result, Ok, Err}
+use Rattle.framing.specs.declared.returned.Refusal.{Refusal}
 use Rattle.plan_table.specs.declared.Kind.{Kind}
 use Rattle.plan_table.specs.declared.Kind.TheVariants.{PlatformRecord, FlowRecord, EndRecord}
 use Rattle.plan_table.proofs.Tags.{tag_byte_lem}
@@ -30,9 +33,9 @@ use Rattle.plan.proofs.Growth.{longer, each_more, legal_more}
 use Rattle.plan.proofs.Listed.{Start, first, later, Fair, of_record, fault_listed}
 
 -- what a reading of the bytes may come to
-pub data Lawful (s : List ℕ) : Reading → Type 0 where
+pub data Lawful (s : List ℕ) : Result Plan Refusal → Type 0 where
   accepts : (p : Platform) (fs : List Flow) → Laid s p fs → Legal p fs → Lawful s (accepted p fs)
-  refuses : (number place : ℕ) → Listed (length_at s 0) number place → place ≤ length s → Lawful s (refused number place)
+  refuses : (fault : Fault) (place : ℕ) → Listed (length_at s 0) (number_of fault) place → place ≤ length s → Lawful s (refused fault place)
 
 -- ---- the records in front of the one at `at`
 record Front (s : List ℕ) (p : Platform) (fs : List Flow) (at : ℕ) : Type 0 where
@@ -94,9 +97,9 @@ module _ {s : List ℕ} {p : Platform} {fs : List Flow} {at : ℕ} (w : Stands s
   flow_step f =
       let b = in_front (others_later FlowRecord refl f.frame) in
       let g = flow_at s at in
-      let m = passed _ _ _ _ f.rest in
-      let i = passed _ _ _ _ m.1 in
-      let q = passed _ _ _ _ i.1 in
+      let m = passed _ _ _ f.rest in
+      let i = passed _ _ _ m.1 in
+      let q = passed _ _ _ i.1 in
       let legal = flow_legal s at p (passed_allowed s at FlowRecord (limits_at s at FlowRecord p) 3 (fields_of FlowRecord (length_at s at)) f.fields.1) (eqb-false g.source g.destination m.0) in
       record {
         here = omega (arith, b.here, longer fs g);
@@ -109,7 +112,7 @@ module _ {s : List ℕ} {p : Platform} {fs : List Flow} {at : ℕ} (w : Stands s
   unfolding rest_at tail_at
   end_step f =
       let b = in_front (others_later EndRecord refl f.frame) in
-      let t = ltb-false (at + 3) (length s) (passed _ _ _ _ f.rest).0 in
+      let t = ltb-false (at + 3) (length s) (passed _ _ _ f.rest).0 in
       (record { platform = b.platform; each = b.each; end = rw b.here at (headed EndRecord f.frame); nothing_else = omega (arith, b.here, f.frame.whole) }, b.legal)
 
 -- ---- the reading, record by record
@@ -117,23 +120,23 @@ module _ (s : List ℕ) where
   abbrev From : ℕ → Type 0
   From turns = (p : Platform) (fs : List Flow) (at : ℕ) → Stands s p fs at → at ≤ length s → Lawful s (records turns s at p fs)
 
-  by_record : (turns : ℕ) → From turns → (p : Platform) (fs : List Flow) (at : ℕ) → Stands s p fs at → at ≤ length s → (c : Checked) → record_at s at p fs ≡ c → Lawful s (records (suc turns) s at p fs)
-  by_record turns more p fs at w h (Fault number pl) e =
+  by_record : (turns : ℕ) → From turns → (p : Platform) (fs : List Flow) (at : ℕ) → Stands s p fs at → at ≤ length s → (c : Result Kind Refusal) → record_at s at p fs ≡ c → Lawful s (records (suc turns) s at p fs)
+  by_record turns more p fs at w h (Err refusal) e =
       let l = subst (Fair s) e (fault_listed s fs (starts w) p h) in
-      rw (fault_ends s at p fs turns e) (refuses number pl l.0 l.1)
-  by_record turns more p fs at w h (Passed PlatformRecord) e =
+      rw (fault_ends s at p fs turns e) (refuses refusal.0 refusal.1 l.0 l.1)
+  by_record turns more p fs at w h (Ok PlatformRecord) e =
       let f = fine s at p fs e in
       rw (platform_leads s at p fs turns e) (more (platform_at s at) fs (at + 3 + length_at s at) (going (platform_step w f)) (omega (arith, f.frame.size, f.frame.whole)))
-  by_record turns more p fs at w h (Passed FlowRecord) e =
+  by_record turns more p fs at w h (Ok FlowRecord) e =
       let f = fine s at p fs e in
       rw (flow_leads s at p fs turns e) (more p (fs ++ flow_at s at ∷ []) (at + 23) (going (flow_step w f)) (omega (arith, f.frame.whole)))
-  by_record turns more p fs at w h (Passed EndRecord) e =
+  by_record turns more p fs at w h (Ok EndRecord) e =
       let l = end_step w (fine s at p fs e) in
       rw (end_accepts s at p fs turns e) (accepts p fs l.0 l.1)
 
   from : (turns : ℕ) → From turns
   unfolding records
-  from zero p fs at w h = refuses 1 at (of_record s (starts w) 1 0 at refl (omega arith) h).0 h
+  from zero p fs at w h = refuses Cut at (of_record s (starts w) 1 0 at refl (omega arith) h).0 h
   from (suc turns) p fs at w h = by_record turns (from turns) p fs at w h (record_at s at p fs) refl
 
   -- "Every byte string offered as a plan gets an analysis or, only for a fault listed in document 01, a numbered refusal with its place"

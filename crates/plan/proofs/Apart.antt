@@ -1,4 +1,5 @@
 -- A plan in which no two numbers of a record are equal and the bytes of each differ, computed: what P's one row, its deadlines and its jitters leave equal.
+use Rattle.framing.specs.Returned.{outcome}
 use Prim.Native.Nat.{ℕ}
 use mathlib.Core.Path.{◌≡◌, refl}
 use mathlib.Core.List.{List, [], ◌∷◌, map}
@@ -10,7 +11,8 @@ use Rattle.plan_checks.specs.Checks.{header_at, tagged_at, frame_at, clash_at, t
 use Rattle.plan.specs.Padded.{padded}
 use Rattle.plan.specs.Records.{fields_from, ◌then◌, body_at, record_at}
 use Rattle.plan.specs.Reading.{accepted, refused, after, records, read_plan}
-use Rattle.framing.specs.declared.returned.Outcome.TheVariants.{Accepted, Refused}
+use Rattle.std.specs.Prelude.{Ok, Err}
+use Rattle.framing.specs.declared.returned.Fault.TheVariants.{DeadlineAbovePeriod, Destination, Source}
 
 abbrev bytes : List ℕ
 bytes =
@@ -29,8 +31,8 @@ plan_read = refl
 
 -- "below columns x rows": node 14 is the last of 5 x 3. Then a period below the deadline, and a jitter below it.
 limits :
-    map (λ s. (read_plan s).outcome) (bytes ∷ set bytes 16 15 ∷ set bytes 17 15 ∷ set bytes 39 15 ∷ set bytes 40 15 ∷ set bytes 20 0x09 ∷ set bytes 28 0x05 ∷ [])
-    ≡ Accepted ∷ Refused 32 16 ∷ Refused 33 17 ∷ Refused 32 39 ∷ Refused 33 40 ∷ Refused 38 24 ∷ Accepted ∷ []
+    map (λ s. outcome (read_plan s)) (bytes ∷ set bytes 16 15 ∷ set bytes 17 15 ∷ set bytes 39 15 ∷ set bytes 40 15 ∷ set bytes 20 0x09 ∷ set bytes 28 0x05 ∷ [])
+    ≡ Ok tt ∷ Err (Source, 16) ∷ Err (Destination, 17) ∷ Err (Source, 39) ∷ Err (Destination, 40) ∷ Err (DeadlineAbovePeriod, 24) ∷ Ok tt ∷ []
 unfolding tag_of six_or_seven priority_flits_at header_at tagged_at frame_at fields_from clash_at tail_at rest_at ◌then◌ body_at record_at accepted refused after records read_plan ◌when◌else◌
 limits = refl
 

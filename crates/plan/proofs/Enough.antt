@@ -1,4 +1,7 @@
 -- "It reads at most 2,048 bytes of standard input, which always decides the reply": 1,505 bytes decide.
+use Rattle.framing.specs.declared.returned.Refusal.{Refusal}
+use Rattle.plan.specs.declared.Plan.{Plan}
+use Rattle.std.specs.Prelude.{Result}
 use Prim.Native.Nat.{ℕ, ◌≤◌, ◌<◌}
 use native.Mathlib.Omega.{arith}
 use native.Mathlib.Decide.{dec_lt}
@@ -11,7 +14,6 @@ use Rattle.framing_numbers.specs.Numbers.{one_at}
 use Rattle.plan_table.specs.Table.{six_or_seven}
 use Rattle.plan_table.proofs.Lengths.{at_most_seven}
 use Rattle.plan.specs.Reading.{read_plan}
-use Rattle.plan.specs.declared.Reading.{Reading}
 use Rattle.plan.proofs.Alike.{Alike, same, arrived, alike}
 
 -- no reading gets behind 65 flows
@@ -21,7 +23,7 @@ enough s u agree ls lu = go (alike s u 7 65 fits agree ls lu (omega arith))
     fits : length_at s 0 ≡ six_or_seven (length_at s 0) → length_at s 0 ≤ 7
     fits own = omega (arith, own, at_most_seven (length_at s 0))
 
-    go : {x y : Reading} → Alike s u 7 65 fits agree ls lu x y → x ≡ y
+    go : {x y : Result Plan Refusal} → Alike s u 7 65 fits agree ls lu x y → x ≡ y
     go (same e) = e
     go (arrived turns p fs many few) = absurd (omega arith)
 

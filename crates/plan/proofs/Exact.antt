@@ -1,4 +1,10 @@
 -- "No refusal is given otherwise": bytes are accepted exactly if they are laid out as the table says, with legal values.
+use Rattle.plan.specs.Reading.{plan_in}
+use Rattle.framing.specs.declared.returned.Fault.{Fault}
+use Rattle.framing.specs.Returned.{number_of}
+use Rattle.framing.proofs.Faults.{same_refusal}
+use Rattle.framing.specs.Returned.{outcome}
+use Rattle.plan.specs.declared.Plan.{Plan}
 use Prim.Native.Nat.{ℕ, zero, suc, ◌+◌, ◌*◌, ◌≤◌, ◌<◌}
 use native.Mathlib.Omega.{arith}
 use mathlib.Core.Path.{◌≡◌, refl, sym, ap, ◌∙◌}
@@ -24,9 +30,8 @@ use Rattle.plan.specs.Layout.{place, Laid}
 use Rattle.plan.specs.Refusals.{Listed}
 use Rattle.plan_values.specs.declared.Platform.{Platform}
 use Rattle.plan_values.specs.declared.Flow.{Flow}
-use Rattle.plan.specs.declared.Reading.{Reading}
-use Rattle.framing.specs.declared.returned.Outcome.TheVariants.{Accepted, Refused}
-use Rattle.plan_checks.specs.declared.Checked.TheVariants.{Passed}
+use Rattle.std.specs.Prelude.{Result, Ok}
+use Rattle.framing.specs.declared.returned.Refusal.{Refusal}
 use Rattle.plan_table.specs.declared.Kind.TheVariants.{PlatformRecord, FlowRecord}
 use Rattle.plan.proofs.Frames.{frame_passes, end_passes}
 use Rattle.plan.proofs.Order.{record_rest, platform_leads, flow_leads, end_accepts}
@@ -44,7 +49,7 @@ module _ (s : List ℕ) (p : Platform) (fs : List Flow) (laid : Laid s p fs) (le
   told : length_at s 0 ≡ platform_length (platform_at s 0)
   told = laid.platform.0.size_is ∙ ap platform_length (sym laid.platform.1)
 
-  platform_passes : record_at s 0 blank_platform [] ≡ Passed PlatformRecord
+  platform_passes : record_at s 0 blank_platform [] ≡ Ok PlatformRecord
   unfolding rest_at
   platform_passes =
       let l = limits_at s 0 PlatformRecord blank_platform in
@@ -65,11 +70,11 @@ module _ (s : List ℕ) (p : Platform) (fs : List Flow) (laid : Laid s p fs) (le
         found_none value (value (flow fs k)) (take k fs)
         (λ j h. let b : j < k = omega (arith, many) in rw (get_or-take k fs j blank_flow b) (ne_eqb (value (flow fs j)) (value (flow fs k)) (d j k b l)))
 
-    clash_passes : clash_at (there k) (flow fs k) (ids_of (take k fs)) (priorities_of (take k fs)) ≡ Passed FlowRecord
+    clash_passes : clash_at (there k) (flow fs k) (ids_of (take k fs)) (priorities_of (take k fs)) ≡ Ok FlowRecord
     unfolding clash_at ◌when◌else◌
     clash_passes = rw (ne_eqb (flow fs k).source (flow fs k).destination (legal.each k l).moves, unlike (λ f. f.id) legal.ids, unlike (λ f. f.priority) legal.priorities)
 
-    flow_passes : record_at s (there k) p (take k fs) ≡ Passed FlowRecord
+    flow_passes : record_at s (there k) p (take k fs) ≡ Ok FlowRecord
     unfolding rest_at
     flow_passes =
         let e = (laid.each k l).1 in
@@ -103,54 +108,50 @@ module _ (s : List ℕ) (p : Platform) (fs : List Flow) (laid : Laid s p fs) (le
       ∙ from (length fs) 0 (length s) (omega arith) (omega (arith, laid.nothing_else))
 
 -- ---- and nothing else is accepted
-refused_never : (number pl : ℕ) (q : Platform) (gs : List Flow) → refused number pl ≡ accepted q gs → ⊥
+refused_never : (fault : Fault) (pl : ℕ) (q : Platform) (gs : List Flow) → refused fault pl ≡ accepted q gs → ⊥
 unfolding refused accepted
-refused_never number pl q gs e =
-    let o : Refused number pl ≡ Accepted = ap (λ (r : Reading). r.outcome) e in
+refused_never fault pl q gs e =
     let z : ◌≡◌ {A = ℕ} 0 1 = cc in
     omega arith
 
 same_plan : (p q : Platform) (fs gs : List Flow) → accepted p fs ≡ accepted q gs → (p ≡ q) × (fs ≡ gs)
 unfolding accepted
 same_plan p q fs gs e =
-    let n : length fs ≡ length gs = ap (λ (r : Reading). r.plan.count) e in
-    let l : padded blank_flow fs ≡ padded blank_flow gs = ap (λ (r : Reading). r.plan.flows) e in
-    (ap (λ (r : Reading). r.plan.platform) e, sym (take_at fs _ (length fs) refl) ∙ ap (take (length fs)) l ∙ take_at gs _ (length fs) (sym n))
+    let n : length fs ≡ length gs = ap (λ (r : Result Plan Refusal). (plan_in r).count) e in
+    let l : padded blank_flow fs ≡ padded blank_flow gs = ap (λ (r : Result Plan Refusal). (plan_in r).flows) e in
+    (ap (λ (r : Result Plan Refusal). (plan_in r).platform) e, sym (take_at fs _ (length fs) refl) ∙ ap (take (length fs)) l ∙ take_at gs _ (length fs) (sym n))
 
 accepted_laid : (s : List ℕ) (p : Platform) (fs : List Flow) → read_plan s ≡ accepted p fs → Laid s p fs × Legal p fs
 accepted_laid s p fs = go (read_plan s) (answered s)
   where
-    go : (r : Reading) → Lawful s r → r ≡ accepted p fs → Laid s p fs × Legal p fs
+    go : (r : Result Plan Refusal) → Lawful s r → r ≡ accepted p fs → Laid s p fs × Legal p fs
     go r (accepts q gs laid legal) e = let k = same_plan q p gs fs e in rw (← k.0, ← k.1) (laid, legal)
-    go r (refuses number pl n h) e = absurd (refused_never number pl p fs e)
+    go r (refuses fault pl n h) e = absurd (refused_never fault pl p fs e)
 
 -- a refusal's number and place are listed: the number says what is in fault, and the place is there, one of the input's or the end of it
-pub refusal_listed : (s : List ℕ) (number pl : ℕ) → read_plan s ≡ refused number pl → Listed (length_at s 0) number pl × (pl ≤ length s)
+pub refusal_listed : (s : List ℕ) (fault : Fault) (pl : ℕ) → read_plan s ≡ refused fault pl → Listed (length_at s 0) (number_of fault) pl × (pl ≤ length s)
 unfolding refused
-refusal_listed s number pl = go (read_plan s) (answered s)
+refusal_listed s fault pl = go (read_plan s) (answered s)
   where
-    go : (r : Reading) → Lawful s r → r ≡ refused number pl → Listed (length_at s 0) number pl × (pl ≤ length s)
-    go r (accepts q gs laid legal) e = absurd (refused_never number pl q gs (sym e))
-    go r (refuses n at w h) e = let o : Refused n at ≡ Refused number pl = ap (λ (x : Reading). x.outcome) e in
-        let a : n ≡ number = cc in
-        let b : at ≡ pl = cc in
-        rw (← a, ← b) (w, h)
+    go : (r : Result Plan Refusal) → Lawful s r → r ≡ refused fault pl → Listed (length_at s 0) (number_of fault) pl × (pl ≤ length s)
+    go r (accepts q gs laid legal) e = absurd (refused_never fault pl q gs (sym e))
+    go r (refuses f at w h) e = let (a, b) = same_refusal e in rw (← a, ← b) (w, h)
 
 -- "5 goes"
-pub five_gone : (s : List ℕ) (number pl : ℕ) → read_plan s ≡ refused number pl → number ≢ 5
-five_gone s number pl e = never 5 refl (refusal_listed s number pl e).0
+pub five_gone : (s : List ℕ) (fault : Fault) (pl : ℕ) → read_plan s ≡ refused fault pl → number_of fault ≢ 5
+five_gone s fault pl e = never 5 refl (refusal_listed s fault pl e).0
 
 pub accepted_exactly : (s : List ℕ) (p : Platform) (fs : List Flow) → (read_plan s ≡ accepted p fs) ↔ (Laid s p fs × Legal p fs)
 accepted_exactly s p fs = (accepted_laid s p fs, λ (laid, legal). laid_accepted s p fs laid legal)
 
 -- a reading whose outcome is acceptance holds a plan
-pub accepted_plan : (s : List ℕ) → (read_plan s).outcome ≡ Accepted → (p : Platform) × (fs : List Flow) × (read_plan s ≡ accepted p fs)
+pub accepted_plan : (s : List ℕ) → outcome (read_plan s) ≡ Ok tt → (p : Platform) × (fs : List Flow) × (read_plan s ≡ accepted p fs)
 unfolding refused
 accepted_plan s = go (read_plan s) (answered s)
   where
-    go : (r : Reading) → Lawful s r → r.outcome ≡ Accepted → (p : Platform) × (fs : List Flow) × (r ≡ accepted p fs)
+    go : (r : Result Plan Refusal) → Lawful s r → outcome r ≡ Ok tt → (p : Platform) × (fs : List Flow) × (r ≡ accepted p fs)
     go r (accepts p fs laid legal) e = (p, fs, refl)
-    go r (refuses number pl n h) e = let z : ◌≡◌ {A = ℕ} 0 1 = cc in absurd (omega arith)
+    go r (refuses fault pl n h) e = let z : ◌≡◌ {A = ℕ} 0 1 = cc in absurd (omega arith)
 
 -- what acceptance gives
 pub legal : (s : List ℕ) (p : Platform) (fs : List Flow) → read_plan s ≡ accepted p fs → Legal p fs

@@ -1,4 +1,5 @@
 -- Each place and each number of the table of refusals, pinned by examples that are computed from the definitions alone.
+use Rattle.framing.specs.Returned.{outcome}
 use Prim.Native.Nat.{ℕ, ◌+◌, ◌-◌}
 use mathlib.Core.Path.{◌≡◌, refl}
 use mathlib.Core.List.{List, [], ◌∷◌, ◌++◌, map}
@@ -16,8 +17,9 @@ use Rattle.plan_checks.specs.Checks.{header_at, tagged_at, frame_at, clash_at, t
 use Rattle.plan.specs.Records.{fields_from, ◌then◌, body_at, record_at}
 use Rattle.plan.specs.Reading.{accepted, refused, after, records, read_plan}
 use Rattle.plan.specs.PlanP.{P, with_seventh}
-use Rattle.framing.specs.declared.returned.Outcome.{Outcome}
-use Rattle.framing.specs.declared.returned.Outcome.TheVariants.{Accepted, Refused}
+use Rattle.std.specs.Prelude.{Result, Ok, Err}
+use Rattle.framing.specs.declared.returned.Refusal.{Refusal}
+use Rattle.framing.specs.declared.returned.Fault.TheVariants.{BufferFlits, ByteAfterEnd, Columns, Cut, DeadlineAbovePeriod, DeadlineZero, Destination, EndsEqual, Flits, Id, IdTaken, Jitter, LinkCycles, Method, Misplaced, Period, Priority, PriorityTaken, RoutingCycles, Rows, Source, UnknownTag, WrongLength}
 use Rattle.plan_checks.specs.declared.Limits.{Limits}
 
 -- P is accepted, with these values
@@ -32,8 +34,8 @@ plan_P = refl
 unfoldable pub bytes : ℕ → List ℕ → List ℕ
 bytes at new = put P at new
 
-unfoldable pub outcomes : List (List ℕ) → List Outcome
-outcomes = map (λ s. (read_plan s).outcome)
+unfoldable pub outcomes : List (List ℕ) → List (Result (Unit {0}) Refusal)
+outcomes = map (λ s. outcome (read_plan s))
 
 -- 1, 2, 3, 4: the frame
 frames :
@@ -54,10 +56,10 @@ frames :
     ∷ drop 78 P  -- the first record is the end
     ∷ (take 9 P ++ P)  -- a platform comes later
     ∷ [])
-    ≡ Refused 1 0 ∷ Refused 1 0 ∷ Refused 1 0 ∷ Refused 1 9 ∷ Refused 1 32 ∷ Refused 1 78 ∷ Refused 1 78
-    ∷ Refused 2 0 ∷ Refused 2 55
-    ∷ Refused 3 1 ∷ Refused 3 1 ∷ Refused 3 33 ∷ Refused 3 79
-    ∷ Refused 4 0 ∷ Refused 4 0 ∷ Refused 4 9 ∷ []
+    ≡ Err (Cut, 0) ∷ Err (Cut, 0) ∷ Err (Cut, 0) ∷ Err (Cut, 9) ∷ Err (Cut, 32) ∷ Err (Cut, 78) ∷ Err (Cut, 78)
+    ∷ Err (UnknownTag, 0) ∷ Err (UnknownTag, 55)
+    ∷ Err (WrongLength, 1) ∷ Err (WrongLength, 1) ∷ Err (WrongLength, 33) ∷ Err (WrongLength, 79)
+    ∷ Err (Misplaced, 0) ∷ Err (Misplaced, 0) ∷ Err (Misplaced, 9) ∷ []
 unfolding tag_of six_or_seven priority_flits_at header_at tagged_at frame_at fields_from clash_at tail_at rest_at ◌then◌ body_at record_at accepted refused after records read_plan ◌when◌else◌ outcomes
 frames = refl
 
@@ -80,10 +82,10 @@ fields :
     ∷ set P 27 201  -- deadline above the period
     ∷ bytes 28 (0x3B ∷ 0x9A ∷ 0xCA ∷ 0x01 ∷ [])  -- jitter
     ∷ [])
-    ≡ Refused 20 3 ∷ Refused 20 3 ∷ Refused 21 4 ∷ Refused 21 4 ∷ Refused 22 5 ∷ Refused 22 5 ∷ Refused 23 6
-    ∷ Refused 24 7 ∷ Refused 24 7 ∷ Refused 25 8
-    ∷ Refused 30 12 ∷ Refused 31 14 ∷ Refused 32 16 ∷ Refused 33 17 ∷ Refused 34 18
-    ∷ Refused 35 20 ∷ Refused 35 20 ∷ Refused 36 24 ∷ Refused 38 24 ∷ Refused 37 28 ∷ []
+    ≡ Err (Columns, 3) ∷ Err (Columns, 3) ∷ Err (Rows, 4) ∷ Err (Rows, 4) ∷ Err (LinkCycles, 5) ∷ Err (LinkCycles, 5) ∷ Err (RoutingCycles, 6)
+    ∷ Err (BufferFlits, 7) ∷ Err (BufferFlits, 7) ∷ Err (Method, 8)
+    ∷ Err (Id, 12) ∷ Err (Priority, 14) ∷ Err (Source, 16) ∷ Err (Destination, 17) ∷ Err (Flits, 18)
+    ∷ Err (Period, 20) ∷ Err (Period, 20) ∷ Err (DeadlineZero, 24) ∷ Err (DeadlineAbovePeriod, 24) ∷ Err (Jitter, 28) ∷ []
 unfolding tag_of six_or_seven priority_flits_at header_at tagged_at frame_at fields_from clash_at tail_at rest_at ◌then◌ body_at record_at accepted refused after records read_plan ◌when◌else◌ outcomes bytes
 fields = refl
 
@@ -100,7 +102,7 @@ last_flow :
     ∷ bytes 70 (0 ∷ 0 ∷ 0x17 ∷ 0x71 ∷ [])  -- deadline above the period
     ∷ bytes 74 (0x3B ∷ 0x9A ∷ 0xCA ∷ 0x01 ∷ [])  -- jitter
     ∷ [])
-    ≡ Refused 30 58 ∷ Refused 31 60 ∷ Refused 32 62 ∷ Refused 33 63 ∷ Refused 34 64 ∷ Refused 35 66 ∷ Refused 36 70 ∷ Refused 38 70 ∷ Refused 37 74 ∷ []
+    ≡ Err (Id, 58) ∷ Err (Priority, 60) ∷ Err (Source, 62) ∷ Err (Destination, 63) ∷ Err (Flits, 64) ∷ Err (Period, 66) ∷ Err (DeadlineZero, 70) ∷ Err (DeadlineAbovePeriod, 70) ∷ Err (Jitter, 74) ∷ []
 unfolding tag_of six_or_seven priority_flits_at header_at tagged_at frame_at fields_from clash_at tail_at rest_at ◌then◌ body_at record_at accepted refused after records read_plan ◌when◌else◌ outcomes bytes
 last_flow = refl
 
@@ -128,7 +130,7 @@ lone_flow = put (take 9 P ++ drop 55 P) 24 (0 ∷ 0 ∷ 0 ∷ 1 ∷ [])
 -- "A deadline below the unloaded latency is legal, and so is a jitter above the period."
 edges :
     outcomes (edges_from no_flows (record { nodes = 6; period = 0 }) 3 platform_fields ++ edges_from lone_flow (record { nodes = 6; period = 6000 }) 12 flow_fields)
-    ≡ replicate 30 Accepted
+    ≡ replicate 30 (Ok tt)
 unfolding tag_of six_or_seven priority_flits_at header_at tagged_at frame_at fields_from clash_at tail_at rest_at ◌then◌ body_at record_at accepted refused after records read_plan ◌when◌else◌ outcomes highest edges_from no_flows lone_flow
 edges = refl
 
@@ -142,6 +144,6 @@ clashes :
     ∷ (P ++ 0x7F ∷ [])  -- a byte after the end record
     ∷ (take 9 P ++ drop 78 P ++ P)  -- the same without flows
     ∷ [])
-    ≡ Refused 7 35 ∷ Refused 8 60 ∷ Refused 9 17 ∷ Refused 9 63 ∷ Refused 10 81 ∷ Refused 10 12 ∷ []
+    ≡ Err (IdTaken, 35) ∷ Err (PriorityTaken, 60) ∷ Err (EndsEqual, 17) ∷ Err (EndsEqual, 63) ∷ Err (ByteAfterEnd, 81) ∷ Err (ByteAfterEnd, 12) ∷ []
 unfolding tag_of six_or_seven priority_flits_at header_at tagged_at frame_at fields_from clash_at tail_at rest_at ◌then◌ body_at record_at accepted refused after records read_plan ◌when◌else◌ outcomes
 clashes = refl

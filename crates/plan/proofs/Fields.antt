@@ -15,7 +15,7 @@ use Rattle.plan_checks.specs.Checks.{above}
 use Rattle.plan.specs.Records.{fields_from}
 use Rattle.plan.specs.Legal.{LegalFlow}
 use Rattle.plan_values.specs.declared.Platform.{Platform}
-use Rattle.plan_checks.specs.declared.Checked.TheVariants.{Passed}
+use Rattle.std.specs.Prelude.{Ok}
 use Rattle.plan_table.specs.declared.Field.{Field}
 use Rattle.plan_table.specs.declared.Kind.{Kind}
 use Rattle.plan_table.specs.declared.Kind.TheVariants.{FlowRecord}
@@ -51,16 +51,16 @@ below_not l BelowNodes v h = lt-leb l.nodes v h
 below_not l (UpToPeriod own) v h = le-ltb l.period v h
 
 module _ (s : List ℕ) (at : ℕ) (kind : Kind) (l : Limits) where
-  pub passed_allowed : (offset : ℕ) (fs : List Field) {found : Kind} → fields_from s at kind l offset fs ≡ Passed found → Allowed s at l offset fs
+  pub passed_allowed : (offset : ℕ) (fs : List Field) {found : Kind} → fields_from s at kind l offset fs ≡ Ok found → Allowed s at l offset fs
   unfolding fields_from
   passed_allowed offset [] e = tt
   passed_allowed offset (f ∷ fs) e =
       let v = number_at s (width f) (at + offset) in
-      let t = passed _ _ _ _ e in
+      let t = passed _ _ _ e in
       let n = neither (ltb v (lowest_of f)) (above l (highest_of f) v) t.0 in
       ((ltb-false v (lowest_of f) n.0, not_above l (highest_of f) v n.1), passed_allowed (offset + bytes_of (width f)) fs t.1)
 
-  pub allowed_passed : (offset : ℕ) (fs : List Field) → Allowed s at l offset fs → fields_from s at kind l offset fs ≡ Passed kind
+  pub allowed_passed : (offset : ℕ) (fs : List Field) → Allowed s at l offset fs → fields_from s at kind l offset fs ≡ Ok kind
   unfolding fields_from ◌when◌else◌
   allowed_passed offset [] w = refl
   allowed_passed offset (f ∷ fs) (w, ws) =

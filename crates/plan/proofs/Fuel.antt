@@ -13,10 +13,11 @@ use Rattle.plan.specs.Records.{record_at}
 use Rattle.plan.specs.Reading.{accepted, after, records, read_plan}
 use Rattle.plan_values.specs.declared.Platform.{Platform}
 use Rattle.plan_values.specs.declared.Flow.{Flow}
-use Rattle.plan_checks.specs.declared.Checked.TheVariants.{Fault}
+use Rattle.std.specs.Prelude.{Err}
+use Rattle.framing.specs.declared.returned.Fault.TheVariants.{Cut}
 use Rattle.plan.proofs.Order.{record_frame, fault_ends}
 
-cut : (s : List ℕ) (at count : ℕ) → length s - at < 3 → frame_at s at count ≡ Fault 1 at
+cut : (s : List ℕ) (at count : ℕ) → length s - at < 3 → frame_at s at count ≡ Err (Cut, at)
 unfolding frame_at ◌when◌else◌
 cut s at count h = rw (lt-ltb (length s - at) 3 h)
 

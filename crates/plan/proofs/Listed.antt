@@ -1,4 +1,6 @@
 -- Every fault that a record can have is one that document 01 lists, at the place it lists.
+use Rattle.framing.specs.Returned.{number_of as fault_number}
+use Rattle.framing.specs.declared.returned.Fault.{Fault}
 use Prim.Native.Nat.{ℕ, ◌+◌, ◌-◌, ◌≤◌}
 use native.Mathlib.Omega.{arith}
 use mathlib.Core.Path.{◌≡◌, refl}
@@ -19,13 +21,11 @@ use Rattle.plan_table.specs.Refusals.{record_refusals, refusals_of, has}
 use Rattle.plan.specs.Refusals.{Listed, of_first, of_later, of_platform, of_flow, of_flow_65, of_end}
 use Rattle.plan_values.specs.declared.Platform.{Platform}
 use Rattle.plan_values.specs.declared.Flow.{Flow}
-use Rattle.plan_checks.specs.declared.Checked.{Checked}
-use Rattle.plan_checks.specs.declared.Checked.TheVariants.{Fault, Passed}
+use Rattle.std.specs.Prelude.{Result, Ok, Some, None, Option, Err}
+use Rattle.framing.specs.declared.returned.Refusal.{Refusal}
 use Rattle.plan_table.specs.declared.Field.{Field}
 use Rattle.plan_table.specs.declared.Kind.{Kind}
 use Rattle.plan_table.specs.declared.Kind.TheVariants.{PlatformRecord, FlowRecord, EndRecord}
-use Rattle.plan_table.specs.declared.Tag.{Tag}
-use Rattle.plan_table.specs.declared.Tag.TheVariants.{Known, Unknown}
 use Rattle.plan_checks.specs.declared.Limits.{Limits}
 use Rattle.plan.proofs.Order.{Framed, framed, flow_room, platform_first, others_later, first_only}
 use Rattle.plan_table.proofs.Numbers.{NumberedBy, numbered}
@@ -42,19 +42,19 @@ pub data Start (s : List ℕ) (at count : ℕ) : Type 0 where
   later : at ≡ place (length_at s 0) count → count ≤ 64 → Start s at count
 
 module _ (s : List ℕ) where
-  abbrev pub Fair : Checked → Type 0
-  Fair (Fault number pl) = Listed (length_at s 0) number pl × (pl ≤ length s)
-  Fair (Passed kind) = Unit {0}
+  abbrev pub Fair : Result Kind Refusal → Type 0
+  Fair (Err refusal) = Listed (length_at s 0) (fault_number refusal.0) refusal.1 × (refusal.1 ≤ length s)
+  Fair (Ok kind) = Unit {0}
 
-  chain : (test : Bool) (number pl : ℕ) (next : Checked) → (test ≡ true → Listed (length_at s 0) number pl × (pl ≤ length s)) → (test ≡ false → Fair next) → Fair (Fault number pl when test else next)
+  chain : (test : Bool) (fault : Fault) (pl : ℕ) (next : Result Kind Refusal) → (test ≡ true → Listed (length_at s 0) (fault_number fault) pl × (pl ≤ length s)) → (test ≡ false → Fair next) → Fair (Err (fault, pl) when test else next)
   unfolding ◌when◌else◌
-  chain true number pl next f g = f refl
-  chain false number pl next f g = g refl
+  chain true fault pl next f g = f refl
+  chain false fault pl next f g = g refl
 
-  follow : (first next : Checked) → Fair first → Fair next → Fair (first then next)
+  follow : (first next : Result Kind Refusal) → Fair first → Fair next → Fair (first then next)
   unfolding ◌then◌
-  follow (Fault number pl) next a b = a
-  follow (Passed kind) next a b = b
+  follow (Err refusal) next a b = a
+  follow (Ok kind) next a b = b
 
   module _ {at count : ℕ} (start : Start s at count) where
     behind : (at ≡ 0 → ⊥) → (at ≡ place (length_at s 0) count) × (count ≤ 64)
@@ -90,14 +90,14 @@ module _ (s : List ℕ) where
         let q : at ≡ place (length_at s 0) 64 = omega (arith, e, few, leb-true 64 count r) in
         rw q of_flow_65
 
-    tagged : (t : Tag) → at + 3 ≤ length s → Fair (tagged_at s at t count)
+    tagged : (t : Option Kind) → at + 3 ≤ length s → Fair (tagged_at s at t count)
     unfolding tagged_at header_at
-    tagged (Known kind) h =
+    tagged (Some kind) h =
         chain _ _ _ _ (λ z. of_record 4 0 at refl (omega arith) (omega arith))
         λ m. chain _ _ _ _ (λ z. of_record 3 1 (at + 1) refl (omega arith) (omega arith))
         λ z. chain _ _ _ _ (λ z. of_record 1 0 at refl (omega arith) (omega arith))
         λ z. chain _ _ _ _ (λ r. (of_65th kind m r, omega arith)) λ z. tt
-    tagged Unknown h = of_record 2 0 at refl (omega arith) (omega arith)
+    tagged None h = of_record 2 0 at refl (omega arith) (omega arith)
 
     frame : at ≤ length s → Fair (frame_at s at count)
     unfolding frame_at
@@ -111,7 +111,7 @@ module _ (s : List ℕ) where
       fields l offset [] n h = tt
       fields l offset (f ∷ fs) (n, ns) h =
           chain _ _ _ _
-          (λ z. (of_kind kind w _ offset (one_of (λ (x : ℕ). has (refusals_of kind) x offset ≡ true) _ n.0 n.1), omega arith))
+          (λ z. (of_kind kind w _ offset (one_of (λ (x : Fault). has (refusals_of kind) (fault_number x) offset ≡ true) _ n.0 n.1), omega arith))
           λ z. fields l (offset + bytes_of (width f)) fs ns (omega arith)
 
     rest : (kind : Kind) (ids priorities : List ℕ) → Framed s at kind count → Fair (rest_at s at kind ids priorities)
@@ -125,10 +125,10 @@ module _ (s : List ℕ) where
     rest EndRecord ids priorities w = chain _ _ _ _ (λ z. (of_kind EndRecord w 10 3 refl, omega (arith, w.whole))) λ z. tt
 
   module _ {at : ℕ} (fs : List Flow) (start : Start s at (length fs)) where
-    body : (c : Checked) (p : Platform) → frame_at s at (length fs) ≡ c → Fair c → Fair (body_at s at c p fs)
+    body : (c : Result Kind Refusal) (p : Platform) → frame_at s at (length fs) ≡ c → Fair c → Fair (body_at s at c p fs)
     unfolding body_at
-    body (Fault number pl) p e f = f
-    body (Passed kind) p e f =
+    body (Err refusal) p e f = f
+    body (Ok kind) p e f =
         let w = framed s at (length fs) e in
         follow _ _ (fields start w (limits_at s at kind p) 3 (fields_of kind (length_at s at)) (numbered kind (length_at s at)) (omega (arith, w.whole, filled kind (length_at s at)))) (rest start kind _ _ w)
 

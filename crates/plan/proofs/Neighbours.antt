@@ -1,4 +1,5 @@
 -- Of two faults the first in document 01's order decides: examples for each two neighbours of the order, both faults in one record.
+use Rattle.plan_table.specs.declared.Kind.{Kind}
 use Prim.Native.Nat.{ℕ}
 use native.Mathlib.Omega.{arith}
 use mathlib.Core.Path.{◌≡◌, refl}
@@ -14,9 +15,9 @@ use Rattle.plan.specs.Records.{fields_from, ◌then◌, body_at, record_at}
 use Rattle.plan.specs.Reading.{accepted, refused, after, records, read_plan}
 use Rattle.plan.specs.Reasons.{header_cut, unknown_tag, misplaced, Holds, RefusedBecause}
 use Rattle.plan.specs.PlanP.{P}
-use Rattle.framing.specs.declared.returned.Outcome.TheVariants.{Refused}
-use Rattle.plan_checks.specs.declared.Checked.{Checked}
-use Rattle.plan_checks.specs.declared.Checked.TheVariants.{Fault}
+use Rattle.std.specs.Prelude.{Result, Err}
+use Rattle.framing.specs.declared.returned.Refusal.{Refusal}
+use Rattle.framing.specs.declared.returned.Fault.TheVariants.{BufferFlits, Columns, Cut, DeadlineAbovePeriod, DeadlineZero, Destination, EndsEqual, Flits, FlowTooMany, Id, IdTaken, Jitter, LinkCycles, Method, Misplaced, Period, Priority, PriorityTaken, RoutingCycles, Rows, Source, UnknownTag, WrongLength}
 use Rattle.plan.proofs.Ranks.{one_reason}
 use Rattle.plan.proofs.Examples.{bytes, outcomes}
 
@@ -29,8 +30,8 @@ cut_headers :
     ∷ (take 78 P ++ 0x03 ∷ []) ∷ (take 78 P ++ 0x03 ∷ 0x00 ∷ [])  -- where the end must start
     ∷ (0x02 ∷ []) ∷ (0x7F ∷ 0x00 ∷ []) ∷ (take 9 P ++ 0x01 ∷ [])  -- misplaced
     ∷ [])
-    ≡ Refused 1 0 ∷ Refused 1 0 ∷ Refused 1 9 ∷ Refused 1 9 ∷ Refused 1 55 ∷ Refused 1 55 ∷ Refused 1 78 ∷ Refused 1 78
-    ∷ Refused 1 0 ∷ Refused 1 0 ∷ Refused 1 9 ∷ []
+    ≡ Err (Cut, 0) ∷ Err (Cut, 0) ∷ Err (Cut, 9) ∷ Err (Cut, 9) ∷ Err (Cut, 55) ∷ Err (Cut, 55) ∷ Err (Cut, 78) ∷ Err (Cut, 78)
+    ∷ Err (Cut, 0) ∷ Err (Cut, 0) ∷ Err (Cut, 9) ∷ []
 unfolding tag_of six_or_seven priority_flits_at header_at tagged_at frame_at fields_from clash_at tail_at rest_at ◌then◌ body_at record_at accepted refused after records read_plan ◌when◌else◌ outcomes bytes
 cut_headers = refl
 
@@ -58,7 +59,7 @@ frames :
     ∷ set (take 8 P) 3 0  -- 1 before 20
     ∷ put (take 31 P) 12 (0xFF ∷ 0xFF ∷ [])  -- 1 before 30
     ∷ [])
-    ≡ Refused 2 0 ∷ Refused 2 9 ∷ Refused 4 0 ∷ Refused 4 9 ∷ Refused 3 1 ∷ Refused 3 10 ∷ Refused 3 79 ∷ Refused 3 79 ∷ Refused 1 0 ∷ Refused 1 9 ∷ []
+    ≡ Err (UnknownTag, 0) ∷ Err (UnknownTag, 9) ∷ Err (Misplaced, 0) ∷ Err (Misplaced, 9) ∷ Err (WrongLength, 1) ∷ Err (WrongLength, 10) ∷ Err (WrongLength, 79) ∷ Err (WrongLength, 79) ∷ Err (Cut, 0) ∷ Err (Cut, 9) ∷ []
 unfolding tag_of six_or_seven priority_flits_at header_at tagged_at frame_at fields_from clash_at tail_at rest_at ◌then◌ body_at record_at accepted refused after records read_plan ◌when◌else◌ outcomes bytes
 frames = refl
 
@@ -72,7 +73,7 @@ platform_lines :
     ∷ set (set P 7 65) 8 4  -- 24 before 25
     ∷ set (set P 7 65) 3 0  -- 20 before 24
     ∷ [])
-    ≡ Refused 20 3 ∷ Refused 21 4 ∷ Refused 22 5 ∷ Refused 23 6 ∷ Refused 24 7 ∷ Refused 20 3 ∷ []
+    ≡ Err (Columns, 3) ∷ Err (Rows, 4) ∷ Err (LinkCycles, 5) ∷ Err (RoutingCycles, 6) ∷ Err (BufferFlits, 7) ∷ Err (Columns, 3) ∷ []
 unfolding tag_of six_or_seven priority_flits_at header_at tagged_at frame_at fields_from clash_at tail_at rest_at ◌then◌ body_at record_at accepted refused after records read_plan ◌when◌else◌ outcomes bytes
 platform_lines = refl
 
@@ -92,8 +93,8 @@ flow_lines :
     ∷ set (set P 36 2) 40 0  -- 9 before 7
     ∷ set (set P 38 1) 36 2  -- 7 before 8
     ∷ [])
-    ≡ Refused 30 12 ∷ Refused 31 14 ∷ Refused 32 16 ∷ Refused 33 17 ∷ Refused 34 18 ∷ Refused 35 20 ∷ Refused 35 20
-    ∷ Refused 36 24 ∷ Refused 38 24 ∷ Refused 37 28 ∷ Refused 9 40 ∷ Refused 7 35 ∷ []
+    ≡ Err (Id, 12) ∷ Err (Priority, 14) ∷ Err (Source, 16) ∷ Err (Destination, 17) ∷ Err (Flits, 18) ∷ Err (Period, 20) ∷ Err (Period, 20)
+    ∷ Err (DeadlineZero, 24) ∷ Err (DeadlineAbovePeriod, 24) ∷ Err (Jitter, 28) ∷ Err (EndsEqual, 40) ∷ Err (IdTaken, 35) ∷ []
 unfolding tag_of six_or_seven priority_flits_at header_at tagged_at frame_at fields_from clash_at tail_at rest_at ◌then◌ body_at record_at accepted refused after records read_plan ◌when◌else◌ outcomes bytes
 flow_lines = refl
 
@@ -107,12 +108,12 @@ two_records :
     ∷ set (P ++ 0x00 ∷ []) 38 1  -- 8 of a flow before 10
     ∷ set (P ++ 0x00 ∷ []) 63 1  -- 9 of a flow before 10
     ∷ [])
-    ≡ Refused 25 8 ∷ Refused 25 8 ∷ Refused 24 7 ∷ Refused 8 37 ∷ Refused 8 37 ∷ Refused 9 63 ∷ []
+    ≡ Err (Method, 8) ∷ Err (Method, 8) ∷ Err (BufferFlits, 7) ∷ Err (PriorityTaken, 37) ∷ Err (PriorityTaken, 37) ∷ Err (EndsEqual, 63) ∷ []
 unfolding tag_of six_or_seven priority_flits_at header_at tagged_at frame_at fields_from clash_at tail_at rest_at ◌then◌ body_at record_at accepted refused after records read_plan ◌when◌else◌ outcomes bytes
 two_records = refl
 
 -- "body complete (1), 6, then 5": the flow record of P behind 64 flows
-behind_64 : List ℕ → Checked
+behind_64 : List ℕ → Result Kind Refusal
 behind_64 s = record_at s 9 (record { columns = 6; rows = 1; link = 1; routing = 0; buffer = 10; method = 3; priority_flits = 0 }) (replicate 64 blank_flow)
 
 sixth :
@@ -123,6 +124,6 @@ sixth :
     ∷ put (take 32 P) 12 (0xFF ∷ 0xFF ∷ [])  -- 6 before 30
     ∷ set (take 32 P) 16 6  -- 6 before 32
     ∷ [])
-    ≡ Fault 6 9 ∷ Fault 3 10 ∷ Fault 1 9 ∷ Fault 6 9 ∷ Fault 6 9 ∷ []
+    ≡ Err (FlowTooMany, 9) ∷ Err (WrongLength, 10) ∷ Err (Cut, 9) ∷ Err (FlowTooMany, 9) ∷ Err (FlowTooMany, 9) ∷ []
 unfolding tag_of six_or_seven priority_flits_at header_at tagged_at frame_at fields_from clash_at tail_at rest_at ◌then◌ body_at record_at accepted refused after records read_plan ◌when◌else◌ behind_64
 sixth = refl

@@ -16,53 +16,51 @@ use Rattle.plan.specs.Records.{fields_at, ids_of, priorities_of, ◌then◌, bod
 use Rattle.plan.specs.Reading.{accepted, refused, after, records}
 use Rattle.plan_values.specs.declared.Platform.{Platform}
 use Rattle.plan_values.specs.declared.Flow.{Flow}
-use Rattle.plan_checks.specs.declared.Checked.{Checked}
-use Rattle.plan_checks.specs.declared.Checked.TheVariants.{Fault, Passed}
+use Rattle.std.specs.Prelude.{Option, Some, None, Result, Ok, Err}
+use Rattle.framing.specs.declared.returned.Refusal.{Refusal}
 use Rattle.plan_table.specs.declared.Kind.{Kind}
 use Rattle.plan_table.specs.declared.Kind.TheVariants.{PlatformRecord, FlowRecord, EndRecord}
-use Rattle.plan_table.specs.declared.Tag.{Tag}
-use Rattle.plan_table.specs.declared.Tag.TheVariants.{Known, Unknown}
 
 -- ---- checks that were passed
-pub no_fault : {number place : ℕ} {kind : Kind} → Fault number place ≡ Passed kind → ⊥
+pub no_fault : {refusal : Refusal} {kind : Kind} → ◌≡◌ {A = Result Kind Refusal} (Err refusal) (Ok kind) → ⊥
 no_fault e = let z : ◌≡◌ {A = ℕ} 0 1 = cc in omega arith
 
-pub passed : (test : Bool) (number place : ℕ) (next : Checked) {kind : Kind} → (Fault number place when test else next) ≡ Passed kind → (test ≡ false) × (next ≡ Passed kind)
+pub passed : (test : Bool) (refusal : Refusal) (next : Result Kind Refusal) {kind : Kind} → (Err refusal when test else next) ≡ Ok kind → (test ≡ false) × (next ≡ Ok kind)
 unfolding ◌when◌else◌
-passed true number place next e = absurd (no_fault e)
-passed false number place next e = (refl, e)
+passed true refusal next e = absurd (no_fault e)
+passed false refusal next e = (refl, e)
 
-pub then_passed : (first next : Checked) {kind : Kind} → first then next ≡ Passed kind → ((k : Kind) × (first ≡ Passed k)) × (next ≡ Passed kind)
+pub then_passed : (first next : Result Kind Refusal) {kind : Kind} → first then next ≡ Ok kind → ((k : Kind) × (first ≡ Ok k)) × (next ≡ Ok kind)
 unfolding ◌then◌
-then_passed (Fault number place) next e = absurd (no_fault e)
-then_passed (Passed k) next e = ((k, refl), e)
+then_passed (Err refusal) next e = absurd (no_fault e)
+then_passed (Ok k) next e = ((k, refl), e)
 
 -- ---- what a frame without fault gives
 pub record Framed (s : List ℕ) (at : ℕ) (kind : Kind) (count : ℕ) : Type 0 where
-  pub tag : tag_of (tag_at s at) ≡ Known kind
+  pub tag : tag_of (tag_at s at) ≡ Some kind
   pub place : misplaced (eqb at 0) kind ≡ false
   pub size : length_at s at ≡ body_length kind (length_at s at)
   pub whole : at + 3 + body_length kind (length_at s at) ≤ length s
   pub room : no_room kind count ≡ false
 
 module _ (s : List ℕ) (at count : ℕ) {kind : Kind} where
-  framed_tag : at + 3 ≤ length s → (t : Tag) → tag_of (tag_at s at) ≡ t → tagged_at s at t count ≡ Passed kind → Framed s at kind count
+  framed_tag : at + 3 ≤ length s → (t : Option Kind) → tag_of (tag_at s at) ≡ t → tagged_at s at t count ≡ Ok kind → Framed s at kind count
   unfolding tagged_at header_at
-  framed_tag h Unknown te e = absurd (no_fault e)
-  framed_tag h (Known found) te e =
-      let m = passed _ _ _ _ e in
-      let l = passed _ _ _ _ m.1 in
-      let b = passed _ _ _ _ l.1 in
-      let r = passed _ _ _ _ b.1 in
+  framed_tag h None te e = absurd (no_fault e)
+  framed_tag h (Some found) te e =
+      let m = passed _ _ _ e in
+      let l = passed _ _ _ m.1 in
+      let b = passed _ _ _ l.1 in
+      let r = passed _ _ _ b.1 in
       let k : found ≡ kind = cc r.1 in
       let d = eqb-true (length_at s at) (body_length found (length_at s at)) (not-false _ l.0) in
       let w = ltb-false (length s - (at + 3)) (length_at s at) b.0 in
       rw (← k) (record { tag = te; place = m.0; size = d; whole = omega arith; room = r.0 })
 
-  pub framed : frame_at s at count ≡ Passed kind → Framed s at kind count
+  pub framed : frame_at s at count ≡ Ok kind → Framed s at kind count
   unfolding frame_at
   framed e =
-      let h = passed _ _ _ _ e in
+      let h = passed _ _ _ e in
       framed_tag (omega (arith, ltb-false (length s - at) 3 h.0)) (tag_of (tag_at s at)) refl h.1
 
 -- there is room for a flow in its frame
@@ -85,60 +83,60 @@ pub others_later : {s : List ℕ} {at count : ℕ} (kind : Kind) → is_platform
 others_later {at} kind e w = eqb-false at 0 (first_only (eqb at 0) kind w.place ∙ e)
 
 -- ---- what stands behind the fields leaves the kind of record as it is
-pub rest_kind : (s : List ℕ) (at : ℕ) (kind : Kind) (ids priorities : List ℕ) {found : Kind} → rest_at s at kind ids priorities ≡ Passed found → found ≡ kind
+pub rest_kind : (s : List ℕ) (at : ℕ) (kind : Kind) (ids priorities : List ℕ) {found : Kind} → rest_at s at kind ids priorities ≡ Ok found → found ≡ kind
 unfolding rest_at clash_at tail_at
 rest_kind s at PlatformRecord ids priorities e = cc
-rest_kind s at FlowRecord ids priorities e = let t = (passed _ _ _ _ (passed _ _ _ _ (passed _ _ _ _ e).1).1).1 in cc
-rest_kind s at EndRecord ids priorities e = let t = (passed _ _ _ _ e).1 in cc
+rest_kind s at FlowRecord ids priorities e = let t = (passed _ _ _ (passed _ _ _ (passed _ _ _ e).1).1).1 in cc
+rest_kind s at EndRecord ids priorities e = let t = (passed _ _ _ e).1 in cc
 
 -- ---- a record without fault
 pub record Fine (s : List ℕ) (at : ℕ) (p : Platform) (fs : List Flow) (kind : Kind) : Type 0 where
   pub frame : Framed s at kind (length fs)
-  pub fields : (found : Kind) × (fields_at s at kind p ≡ Passed found)
-  pub rest : rest_at s at kind (ids_of fs) (priorities_of fs) ≡ Passed kind
+  pub fields : (found : Kind) × (fields_at s at kind p ≡ Ok found)
+  pub rest : rest_at s at kind (ids_of fs) (priorities_of fs) ≡ Ok kind
 
 module _ (s : List ℕ) (at : ℕ) (p : Platform) (fs : List Flow) {kind : Kind} where
-  fine_body : (c : Checked) → frame_at s at (length fs) ≡ c → body_at s at c p fs ≡ Passed kind → Fine s at p fs kind
+  fine_body : (c : Result Kind Refusal) → frame_at s at (length fs) ≡ c → body_at s at c p fs ≡ Ok kind → Fine s at p fs kind
   unfolding body_at
-  fine_body (Fault number place) fe e = absurd (no_fault e)
-  fine_body (Passed found) fe e =
+  fine_body (Err refusal) fe e = absurd (no_fault e)
+  fine_body (Ok found) fe e =
       let t = then_passed _ _ e in
       let k = rest_kind s at found _ _ t.1 in
       rw k (record { frame = framed s at (length fs) fe; fields = t.0; rest = rw k at t.1 })
 
-  pub fine : record_at s at p fs ≡ Passed kind → Fine s at p fs kind
+  pub fine : record_at s at p fs ≡ Ok kind → Fine s at p fs kind
   unfolding record_at
   fine e = fine_body (frame_at s at (length fs)) refl e
 
 -- ---- the order within a record
 module _ (s : List ℕ) (at : ℕ) (p : Platform) (fs : List Flow) where
-  pub record_frame : {number place : ℕ} → frame_at s at (length fs) ≡ Fault number place → record_at s at p fs ≡ Fault number place
+  pub record_frame : {refusal : Refusal} → frame_at s at (length fs) ≡ Err refusal → record_at s at p fs ≡ Err refusal
   unfolding record_at body_at
   record_frame e = rw e
 
-  module _ {kind : Kind} (fe : frame_at s at (length fs) ≡ Passed kind) where
-    pub record_field : {number place : ℕ} → fields_at s at kind p ≡ Fault number place → record_at s at p fs ≡ Fault number place
+  module _ {kind : Kind} (fe : frame_at s at (length fs) ≡ Ok kind) where
+    pub record_field : {refusal : Refusal} → fields_at s at kind p ≡ Err refusal → record_at s at p fs ≡ Err refusal
     unfolding record_at body_at ◌then◌
     record_field e = rw (fe, e)
 
-    pub record_rest : {found : Kind} → fields_at s at kind p ≡ Passed found → record_at s at p fs ≡ rest_at s at kind (ids_of fs) (priorities_of fs)
+    pub record_rest : {found : Kind} → fields_at s at kind p ≡ Ok found → record_at s at p fs ≡ rest_at s at kind (ids_of fs) (priorities_of fs)
     unfolding record_at body_at ◌then◌
     record_rest e = rw (fe, e)
 
   -- ---- what a record makes of the reading
   module _ (turns : ℕ) where
-    pub fault_ends : {number place : ℕ} → record_at s at p fs ≡ Fault number place → records (suc turns) s at p fs ≡ refused number place
+    pub fault_ends : {refusal : Refusal} → record_at s at p fs ≡ Err refusal → records (suc turns) s at p fs ≡ refused refusal.0 refusal.1
     unfolding records after
     fault_ends e = rw e
 
-    pub platform_leads : record_at s at p fs ≡ Passed PlatformRecord → records (suc turns) s at p fs ≡ records turns s (at + 3 + length_at s at) (platform_at s at) fs
+    pub platform_leads : record_at s at p fs ≡ Ok PlatformRecord → records (suc turns) s at p fs ≡ records turns s (at + 3 + length_at s at) (platform_at s at) fs
     unfolding records after
     platform_leads e = rw e
 
-    pub flow_leads : record_at s at p fs ≡ Passed FlowRecord → records (suc turns) s at p fs ≡ records turns s (at + 23) p (fs ++ flow_at s at ∷ [])
+    pub flow_leads : record_at s at p fs ≡ Ok FlowRecord → records (suc turns) s at p fs ≡ records turns s (at + 23) p (fs ++ flow_at s at ∷ [])
     unfolding records after
     flow_leads e = rw e
 
-    pub end_accepts : record_at s at p fs ≡ Passed EndRecord → records (suc turns) s at p fs ≡ accepted p fs
+    pub end_accepts : record_at s at p fs ≡ Ok EndRecord → records (suc turns) s at p fs ≡ accepted p fs
     unfolding records after
     end_accepts e = rw e

@@ -11,7 +11,7 @@ use Rattle.plan_values.specs.Values.{blank_flow}
 use Rattle.plan.specs.Reading.{accepted}
 use Rattle.plan_values.specs.declared.Platform.{Platform}
 use Rattle.plan_values.specs.declared.Flow.{Flow}
-use Rattle.framing.specs.declared.returned.Outcome.TheVariants.{Accepted}
+use Rattle.std.specs.Prelude.{Ok}
 
 module _ {A : Type 0} (blank : A) where
   -- one more
@@ -43,9 +43,9 @@ module _ {A : Type 0} (blank : A) where
   padded_behind xs k h = behind xs (64 - length xs) k h
 
 -- the flows so far
-pub accepted_is : (p : Platform) (flows : List Flow) (n : ℕ) → length flows ≡ 64 → n ≤ 64 → flows ≡ padded blank_flow (take n flows) → record { outcome = Accepted; plan = record { platform = p; flows = flows; count = n } } ≡ accepted p (take n flows)
+pub accepted_is : (p : Platform) (flows : List Flow) (n : ℕ) → length flows ≡ 64 → n ≤ 64 → flows ≡ padded blank_flow (take n flows) → Ok (record { platform = p; flows = flows; count = n }) ≡ accepted p (take n flows)
 unfolding accepted
-accepted_is p flows n l h e = λ i. record { outcome = Accepted; plan = record { platform = p; flows = e i; count = sym (length-take-le n flows (omega arith)) i } }
+accepted_is p flows n l h e = λ i. Ok (record { platform = p; flows = e i; count = sym (length-take-le n flows (omega arith)) i })
 
 -- one more flow, or one more of its values
 module _ {A : Type 0} (xs : List A) (count : ℕ) (x : A) (long : length xs ≡ 64) (room : count < 64) where

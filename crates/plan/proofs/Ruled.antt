@@ -1,8 +1,10 @@
 -- What a check of a record says, against the table's lines in their order: the first that holds stops it.
+use Rattle.framing.specs.Returned.{number_of as fault_number}
+use Rattle.framing.specs.declared.returned.Fault.{Fault}
 use Prim.Native.Nat.{ℕ, suc, ◌+◌, ◌≤◌, ◌<◌}
 use native.Mathlib.Omega.{arith}
 use native.Mathlib.Decide.{ℕ_discrete}
-use mathlib.Core.Path.{◌≡◌, refl, subst, ◌∙◌}
+use mathlib.Core.Path.{◌≡◌, refl, ap, subst, ◌∙◌}
 use mathlib.Core.Bool.{Bool, true, false, ◌||◌}
 use mathlib.Core.List.{List, [], ◌∷◌}
 use lib.Dec.{ltb, leb}
@@ -11,8 +13,8 @@ use Rattle.framing.specs.First.{◌when◌else◌}
 use Rattle.plan_table.specs.Table.{tag_byte}
 use Rattle.plan.specs.Legal.{Within}
 use Rattle.plan.specs.Reasons.{start, tag, Line, rank, number_of, offset_of, Outside, Holds, Faultless}
-use Rattle.plan_checks.specs.declared.Checked.{Checked}
-use Rattle.plan_checks.specs.declared.Checked.TheVariants.{Fault, Passed}
+use Rattle.std.specs.Prelude.{Result, Ok, Err}
+use Rattle.framing.specs.declared.returned.Refusal.{Refusal}
 use Rattle.plan_table.specs.declared.Kind.{Kind}
 use Rattle.plan.proofs.Fields.{neither}
 use Rattle.plan.proofs.Ranks.{order, same_rank, rank_small, From, all_ranks}
@@ -40,40 +42,40 @@ module _ (lowest highest v : ℕ) where
 
 -- ---- what a check says, against the lines that are left
 module _ (s : List ℕ) (n : ℕ) where
-  pub data Ruled : Checked → List Line → Type 0 where
-    stops : (l : Line) {ls : List Line} {number pl : ℕ} → Holds s n l → number ≡ number_of l → pl ≡ start s n + offset_of l → Ruled (Fault number pl) (l ∷ ls)
-    passes : (l : Line) {ls : List Line} {c : Checked} → (Holds s n l → ⊥) → Ruled c ls → Ruled c (l ∷ ls)
-    ends : (kind : Kind) → tag s n ≡ tag_byte kind → Ruled (Passed kind) []
+  pub data Ruled : Result Kind Refusal → List Line → Type 0 where
+    stops : (l : Line) {ls : List Line} {fault : Fault} {pl : ℕ} → Holds s n l → fault_number fault ≡ number_of l → pl ≡ start s n + offset_of l → Ruled (Err (fault, pl)) (l ∷ ls)
+    passes : (l : Line) {ls : List Line} {c : Result Kind Refusal} → (Holds s n l → ⊥) → Ruled c ls → Ruled c (l ∷ ls)
+    ends : (kind : Kind) → tag s n ≡ tag_byte kind → Ruled (Ok kind) []
 
 module _ {s : List ℕ} {n : ℕ} where
   -- a check whose faults are the whole's
-  module _ (whole : Checked → Checked) (keeps : (number pl : ℕ) → whole (Fault number pl) ≡ Fault number pl) where
-    pub step : (l : Line) {ls : List Line} (test : Bool) {number pl : ℕ} {next : Checked} → (test ≡ true → Holds s n l) → (test ≡ false → Holds s n l → ⊥) → number ≡ number_of l → pl ≡ start s n + offset_of l → (test ≡ false → Ruled s n (whole next) ls) → Ruled s n (whole (Fault number pl when test else next)) (l ∷ ls)
+  module _ (whole : Result Kind Refusal → Result Kind Refusal) (keeps : (refusal : Refusal) → whole (Err refusal) ≡ Err refusal) where
+    pub step : (l : Line) (fault : Fault) {ls : List Line} (test : Bool) {pl : ℕ} {next : Result Kind Refusal} → (test ≡ true → Holds s n l) → (test ≡ false → Holds s n l → ⊥) → fault_number fault ≡ number_of l → pl ≡ start s n + offset_of l → (test ≡ false → Ruled s n (whole next) ls) → Ruled s n (whole (Err (fault, pl) when test else next)) (l ∷ ls)
     unfolding ◌when◌else◌
-    step l true t f a b more = rw (keeps _ _) (stops l (t refl) a b)
-    step l false t f a b more = passes l (f refl) (more refl)
+    step l fault true t f a b more = rw (keeps _) (stops l (t refl) a b)
+    step l fault false t f a b more = passes l (f refl) (more refl)
 
     -- a field with a lowest and a highest value
-    pub field : (l : Line) {ls : List Line} (lowest highest v : ℕ) {number pl : ℕ} {next : Checked} → (Outside lowest highest v → Holds s n l) → (Holds s n l → Outside lowest highest v) → number ≡ number_of l → pl ≡ start s n + offset_of l → Ruled s n (whole next) ls → Ruled s n (whole (Fault (number when ltb v lowest else number) pl when (ltb v lowest || ltb highest v) else next)) (l ∷ ls)
-    field l lowest highest v {number} t f a b more =
-        step l (ltb v lowest || ltb highest v)
+    pub field : (l : Line) (fault : Fault) {ls : List Line} (lowest highest v : ℕ) {pl : ℕ} {next : Result Kind Refusal} → (Outside lowest highest v → Holds s n l) → (Holds s n l → Outside lowest highest v) → fault_number fault ≡ number_of l → pl ≡ start s n + offset_of l → Ruled s n (whole next) ls → Ruled s n (whole (Err (fault when ltb v lowest else fault, pl) when (ltb v lowest || ltb highest v) else next)) (l ∷ ls)
+    field l fault lowest highest v t f a b more =
+        step l (fault when ltb v lowest else fault) (ltb v lowest || ltb highest v)
         (λ e. t (outside_true lowest highest v e))
         (λ e h. f h (outside_false lowest highest v e))
-        (same (ltb v lowest) number ∙ a) b (λ e. more)
+        (ap fault_number (same (ltb v lowest) fault) ∙ a) b (λ e. more)
 
     -- a field below the count of nodes
-    pub node : (l : Line) {ls : List Line} (many v : ℕ) {number pl : ℕ} {next : Checked} → (many ≤ v → Holds s n l) → (Holds s n l → many ≤ v) → number ≡ number_of l → pl ≡ start s n + offset_of l → Ruled s n (whole next) ls → Ruled s n (whole (Fault (number when ltb v 0 else number) pl when (ltb v 0 || leb many v) else next)) (l ∷ ls)
-    node l many v {number} t f a b more =
-        step l (ltb v 0 || leb many v)
+    pub node : (l : Line) (fault : Fault) {ls : List Line} (many v : ℕ) {pl : ℕ} {next : Result Kind Refusal} → (many ≤ v → Holds s n l) → (Holds s n l → many ≤ v) → fault_number fault ≡ number_of l → pl ≡ start s n + offset_of l → Ruled s n (whole next) ls → Ruled s n (whole (Err (fault when ltb v 0 else fault, pl) when (ltb v 0 || leb many v) else next)) (l ∷ ls)
+    node l fault many v t f a b more =
+        step l (fault when ltb v 0 else fault) (ltb v 0 || leb many v)
         (λ e. by_bool (ltb v 0) (λ z. absurd (omega (arith, ltb-true v 0 z))) (λ z. t (leb-true many v (either _ _ e z))))
         (λ e h. omega (arith, f h, leb-false many v (neither (ltb v 0) (leb many v) e).1))
-        (same (ltb v 0) number ∙ a) b (λ e. more)
+        (ap fault_number (same (ltb v 0) fault) ∙ a) b (λ e. more)
 
     -- a field with a line for a value below the lowest, and a line for one above the highest
-    pub both : (l m : Line) {ls : List Line} (low high : Bool) {number other pl : ℕ} {next : Checked} → (low ≡ true → Holds s n l) → (low ≡ false → Holds s n l → ⊥) → (high ≡ true → Holds s n m) → (high ≡ false → Holds s n m → ⊥) → number ≡ number_of l → other ≡ number_of m → pl ≡ start s n + offset_of l → pl ≡ start s n + offset_of m → Ruled s n (whole next) ls → Ruled s n (whole (Fault (number when low else other) pl when (low || high) else next)) (l ∷ m ∷ ls)
+    pub both : (l m : Line) (fault other : Fault) {ls : List Line} (low high : Bool) {pl : ℕ} {next : Result Kind Refusal} → (low ≡ true → Holds s n l) → (low ≡ false → Holds s n l → ⊥) → (high ≡ true → Holds s n m) → (high ≡ false → Holds s n m → ⊥) → fault_number fault ≡ number_of l → fault_number other ≡ number_of m → pl ≡ start s n + offset_of l → pl ≡ start s n + offset_of m → Ruled s n (whole next) ls → Ruled s n (whole (Err (fault when low else other, pl) when (low || high) else next)) (l ∷ m ∷ ls)
     unfolding ◌when◌else◌
-    both l m true high lt lf ht hf a b c d more = rw (keeps _ _) (stops l (lt refl) a c)
-    both l m false high lt lf ht hf a b c d more = passes l (lf refl) (step m high ht hf b d (λ e. more))
+    both l m fault other true high lt lf ht hf a b c d more = rw (keeps _) (stops l (lt refl) a c)
+    both l m fault other false high lt lf ht hf a b c d more = passes l (lf refl) (step m other high ht hf b d (λ e. more))
 
 -- ---- by ranks
 module _ (s : List ℕ) (n : ℕ) where
@@ -93,18 +95,18 @@ module _ (s : List ℕ) (n : ℕ) where
       go (yes e) h = d (subst (Holds s n) (same_rank m l e) h)
       go (no u) h = more (omega arith) h
 
-  stopped : {ls : List Line} {number pl : ℕ} → Ruled s n (Fault number pl) ls → (r : ℕ) → From r ls → Decides r number pl
+  stopped : {ls : List Line} {refusal : Refusal} → Ruled s n (Err refusal) ls → (r : ℕ) → From r ls → Decides r (fault_number refusal.0) refusal.1
   stopped (stops l h a b) r (q, qs) = record { line = l; holds = h; first = λ m c d. absurd (omega arith); number_is = a; place_is = b }
   stopped (passes l d w) r (q, qs) =
       let f = stopped w (suc r) qs in
       record { line = f.line; holds = f.holds; first = λ m c e. further r l m q d (λ b. f.first m b e) c; number_is = f.number_is; place_is = f.place_is }
 
-  cleared : {ls : List Line} {kind : Kind} → Ruled s n (Passed kind) ls → (r : ℕ) → From r ls → ((l : Line) → r ≤ rank l → Holds s n l → ⊥) × (tag s n ≡ tag_byte kind)
+  cleared : {ls : List Line} {kind : Kind} → Ruled s n (Ok kind) ls → (r : ℕ) → From r ls → ((l : Line) → r ≤ rank l → Holds s n l → ⊥) × (tag s n ≡ tag_byte kind)
   cleared (ends kind e) r q = (λ l c. absurd (rank_small l (omega arith)), e)
   cleared (passes l d w) r (q, qs) = let f = cleared w (suc r) qs in (λ m. further r l m q d (f.0 m), f.1)
 
-  pub decides : {number pl : ℕ} → Ruled s n (Fault number pl) order → Decides 0 number pl
+  pub decides : {refusal : Refusal} → Ruled s n (Err refusal) order → Decides 0 (fault_number refusal.0) refusal.1
   decides w = stopped w 0 all_ranks
 
-  pub faultless : {kind : Kind} → Ruled s n (Passed kind) order → Faultless s n × (tag s n ≡ tag_byte kind)
+  pub faultless : {kind : Kind} → Ruled s n (Ok kind) order → Faultless s n × (tag s n ≡ tag_byte kind)
   faultless w = let f = cleared w 0 all_ranks in (λ l. f.0 l (omega arith), f.1)

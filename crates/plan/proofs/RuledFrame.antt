@@ -1,4 +1,5 @@
 -- A record's check gives the first line of the table that holds of it, in document 01's order.
+use Rattle.framing.specs.declared.returned.Fault.TheVariants.{Cut, FlowTooMany, Misplaced, WrongLength}
 use Prim.Native.Nat.{ℕ, zero, suc, ◌+◌, ◌-◌, ◌≤◌, ◌<◌}
 use native.Mathlib.Omega.{arith}
 use mathlib.Core.Path.{◌≡◌, refl, sym, ap, ◌∙◌}
@@ -16,12 +17,10 @@ use Rattle.plan.specs.Records.{body_at, record_at}
 use Rattle.plan.specs.Reasons.{start, tag, header_cut, unknown_tag, misplaced, wrong_length, body_cut, flow_65, Holds}
 use Rattle.plan_values.specs.declared.Platform.{Platform}
 use Rattle.plan_values.specs.declared.Flow.{Flow}
-use Rattle.plan_checks.specs.declared.Checked.{Checked}
-use Rattle.plan_checks.specs.declared.Checked.TheVariants.{Fault, Passed}
+use Rattle.std.specs.Prelude.{Result, Ok, Err, Some, None, Option}
+use Rattle.framing.specs.declared.returned.Refusal.{Refusal}
 use Rattle.plan_table.specs.declared.Kind.{Kind}
 use Rattle.plan_table.specs.declared.Kind.TheVariants.{PlatformRecord, FlowRecord, EndRecord}
-use Rattle.plan_table.specs.declared.Tag.{Tag}
-use Rattle.plan_table.specs.declared.Tag.TheVariants.{Known, Unknown}
 use Rattle.plan_table.proofs.Tags.{tag_known, tag_byte_lem}
 use Rattle.plan_table.proofs.Lengths.{six, seven, six_at_least, at_most_seven}
 use Rattle.plan.proofs.Order.{first_only}
@@ -48,21 +47,21 @@ later_than s (suc n) d = omega arith
 module _ (s : List ℕ) (n : ℕ) (p : Platform) (fs : List Flow) (seen : Seen s n p fs) where
   -- ---- the frame
   module _ (there : start s n + 3 ≤ length s) where
-    abbrev whole : Checked → Checked
+    abbrev whole : Result Kind Refusal → Result Kind Refusal
     whole c = body_at s (start s n) c p fs
 
-    keeps : (number pl : ℕ) → whole (Fault number pl) ≡ Fault number pl
+    keeps : (refusal : Refusal) → whole (Err refusal) ≡ Err refusal
     unfolding body_at
-    keeps number pl = refl
+    keeps refusal = refl
 
     -- the body's bytes, a 65th flow, and the body
-    from_body : (kind : Kind) → tag s n ≡ tag_byte kind → (kind ≡ FlowRecord → 0 < n) → Ruled s n (whole (Fault 1 (start s n) when is_body_cut s (start s n) else Fault 6 (start s n) when no_room kind (length fs) else Passed kind)) (body_cut ∷ flow_65 ∷ platform_lines)
+    from_body : (kind : Kind) → tag s n ≡ tag_byte kind → (kind ≡ FlowRecord → 0 < n) → Ruled s n (whole (Err (Cut, start s n) when is_body_cut s (start s n) else Err (FlowTooMany, start s n) when no_room kind (length fs) else Ok kind)) (body_cut ∷ flow_65 ∷ platform_lines)
     unfolding body_at
     from_body kind e later =
-        step whole keeps body_cut (is_body_cut s (start s n))
+        step whole keeps body_cut Cut (is_body_cut s (start s n))
         (λ t. omega (arith, ltb-true (length s - (start s n + 3)) (length_at s (start s n)) t))
         (λ f h. omega (arith, ltb-false (length s - (start s n + 3)) (length_at s (start s n)) f, h)) refl (omega arith)
-        (λ z. step whole keeps flow_65 (no_room kind (length fs)) (room kind e) (no_room_lem kind e) refl (omega arith) (λ z. body s n p fs seen kind e later))
+        (λ z. step whole keeps flow_65 FlowTooMany (no_room kind (length fs)) (room kind e) (no_room_lem kind e) refl (omega arith) (λ z. body s n p fs seen kind e later))
       where
         room : (kind : Kind) → tag s n ≡ tag_byte kind → no_room kind (length fs) ≡ true → Holds s n flow_65
         room PlatformRecord e t = absurd (false≢true t)
@@ -122,8 +121,8 @@ module _ (s : List ℕ) (n : ℕ) (p : Platform) (fs : List Flow) (seen : Seen s
     header : (kind : Kind) → tag s n ≡ tag_byte kind → Ruled s n (whole (header_at s (start s n) kind (length fs))) of_header
     unfolding header_at
     header kind e =
-        step whole keeps misplaced (out_of_place (eqb (start s n) 0) kind) (out kind e) (in_place kind e) refl (omega arith)
-        λ f. step whole keeps wrong_length (not (eqb (length_at s (start s n)) (body_length kind (length_at s (start s n))))) (wrong kind e) (right kind e) refl refl
+        step whole keeps misplaced Misplaced (out_of_place (eqb (start s n) 0) kind) (out kind e) (in_place kind e) refl (omega arith)
+        λ f. step whole keeps wrong_length WrongLength (not (eqb (length_at s (start s n)) (body_length kind (length_at s (start s n))))) (wrong kind e) (right kind e) refl refl
         λ z. from_body kind e (flow_later kind e f)
 
     known : (kind : Kind) → tag s n ≡ tag_byte kind → Holds s n unknown_tag → ⊥
@@ -131,18 +130,18 @@ module _ (s : List ℕ) (n : ℕ) (p : Platform) (fs : List Flow) (seen : Seen s
     known FlowRecord e (a, b, c) = b e
     known EndRecord e (a, b, c) = c e
 
-    unknown : (kind : Kind) → tag_of (tag s n) ≡ Unknown → tag s n ≡ tag_byte kind → ⊥
+    unknown : (kind : Kind) → tag_of (tag s n) ≡ None → tag s n ≡ tag_byte kind → ⊥
     unknown kind u e = let k = tag_known kind in let a = ap tag_of e in let z : ◌≡◌ {A = ℕ} 0 1 = cc in omega arith
 
-    tagged : (t : Tag) → tag_of (tag s n) ≡ t → Ruled s n (whole (tagged_at s (start s n) t (length fs))) (unknown_tag ∷ of_header)
+    tagged : (t : Option Kind) → tag_of (tag s n) ≡ t → Ruled s n (whole (tagged_at s (start s n) t (length fs))) (unknown_tag ∷ of_header)
     unfolding tagged_at body_at
-    tagged (Known kind) e = let b = tag_byte_lem (tag s n) e in passes unknown_tag (known kind b) (header kind b)
-    tagged Unknown e = let z : start s n ≡ start s n + 0 = omega arith in stops unknown_tag (unknown PlatformRecord e, unknown FlowRecord e, unknown EndRecord e) refl z
+    tagged (Some kind) e = let b = tag_byte_lem (tag s n) e in passes unknown_tag (known kind b) (header kind b)
+    tagged None e = let z : start s n ≡ start s n + 0 = omega arith in stops unknown_tag (unknown PlatformRecord e, unknown FlowRecord e, unknown EndRecord e) refl z
 
   pub ruled : Ruled s n (record_at s (start s n) p fs) order
   unfolding record_at frame_at body_at
   ruled =
-      step (λ c. body_at s (start s n) c p fs) (λ number pl. refl) header_cut (is_header_cut s (start s n))
+      step (λ c. body_at s (start s n) c p fs) (λ refusal. refl) header_cut Cut (is_header_cut s (start s n))
       (λ t. omega (arith, ltb-true (length s - start s n) 3 t))
       (λ f h. omega (arith, ltb-false (length s - start s n) 3 f, h)) refl (omega arith)
       λ f. tagged (omega (arith, ltb-false (length s - start s n) 3 f)) (tag_of (tag s n)) refl

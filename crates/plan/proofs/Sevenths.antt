@@ -9,7 +9,8 @@ use Rattle.plan_checks.specs.Checks.{header_at, tagged_at, frame_at, clash_at, t
 use Rattle.plan.specs.Records.{fields_from, ◌then◌, body_at, record_at}
 use Rattle.plan.specs.Reading.{accepted, refused, after, records, read_plan}
 use Rattle.plan.specs.PlanP.{with_seventh}
-use Rattle.framing.specs.declared.returned.Outcome.TheVariants.{Accepted, Refused}
+use Rattle.std.specs.Prelude.{Ok, Err}
+use Rattle.framing.specs.declared.returned.Fault.TheVariants.{BufferFlits, ByteAfterEnd, Cut, DeadlineZero, EndsEqual, IdTaken, Method, Misplaced, PriorityFlits, PriorityTaken, Source, UnknownTag, WrongLength}
 use Rattle.plan.proofs.Examples.{outcomes}
 
 -- P with a seventh byte of 2 is accepted, with P's values and 2 priority flits
@@ -23,7 +24,7 @@ plan_read = refl
 -- "a seventh byte of zero or above 8 gets 26 at its place": 0, 1, 8, 9 and 255 there
 sevenths :
     outcomes (map with_seventh (0 ∷ 1 ∷ 8 ∷ 9 ∷ 255 ∷ []))
-    ≡ Refused 26 9 ∷ Accepted ∷ Accepted ∷ Refused 26 9 ∷ Refused 26 9 ∷ []
+    ≡ Err (PriorityFlits, 9) ∷ Ok tt ∷ Ok tt ∷ Err (PriorityFlits, 9) ∷ Err (PriorityFlits, 9) ∷ []
 unfolding tag_of six_or_seven priority_flits_at header_at tagged_at frame_at fields_from clash_at tail_at rest_at ◌then◌ body_at record_at accepted refused after records read_plan ◌when◌else◌ outcomes
 sevenths = refl
 
@@ -40,8 +41,8 @@ faults :
     ∷ set (with_seventh 0) 10 0x03  -- 26 before 2 of a flow
     ∷ take 11 (with_seventh 9)  -- 26 before 1 of a flow
     ∷ [])
-    ≡ Refused 3 1 ∷ Refused 3 1 ∷ Refused 3 10 ∷ Refused 1 0 ∷ Refused 1 0
-    ∷ Refused 25 8 ∷ Refused 24 7 ∷ Refused 26 9 ∷ Refused 26 9 ∷ []
+    ≡ Err (WrongLength, 1) ∷ Err (WrongLength, 1) ∷ Err (WrongLength, 10) ∷ Err (Cut, 0) ∷ Err (Cut, 0)
+    ∷ Err (Method, 8) ∷ Err (BufferFlits, 7) ∷ Err (PriorityFlits, 9) ∷ Err (PriorityFlits, 9) ∷ []
 unfolding tag_of six_or_seven priority_flits_at header_at tagged_at frame_at fields_from clash_at tail_at rest_at ◌then◌ body_at record_at accepted refused after records read_plan ◌when◌else◌ outcomes
 faults = refl
 
@@ -61,7 +62,7 @@ moved :
     ∷ set (with_seventh 2) 28 0  -- deadline zero
     ∷ (with_seventh 2 ++ 0x00 ∷ [])  -- a byte after the end record
     ∷ [])
-    ≡ Refused 1 10 ∷ Refused 1 33 ∷ Refused 1 79 ∷ Refused 2 56 ∷ Refused 3 34 ∷ Refused 4 56 ∷ Refused 7 36 ∷ Refused 8 61 ∷ Refused 9 64
-    ∷ Refused 32 63 ∷ Refused 36 25 ∷ Refused 10 82 ∷ []
+    ≡ Err (Cut, 10) ∷ Err (Cut, 33) ∷ Err (Cut, 79) ∷ Err (UnknownTag, 56) ∷ Err (WrongLength, 34) ∷ Err (Misplaced, 56) ∷ Err (IdTaken, 36) ∷ Err (PriorityTaken, 61) ∷ Err (EndsEqual, 64)
+    ∷ Err (Source, 63) ∷ Err (DeadlineZero, 25) ∷ Err (ByteAfterEnd, 82) ∷ []
 unfolding tag_of six_or_seven priority_flits_at header_at tagged_at frame_at fields_from clash_at tail_at rest_at ◌then◌ body_at record_at accepted refused after records read_plan ◌when◌else◌ outcomes
 moved = refl

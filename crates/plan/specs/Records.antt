@@ -1,7 +1,8 @@
 -- Document 01, "What sends a plan back": the scan of a record's fields, and the order within a record.
 -- `s` is the plan's bytes, `at` the place of the record's tag, `fs` the flows before it, `p` the platform.
-use Rattle.std.specs.Prelude.{ℕ, ◌+◌, List, [], ◌∷◌, map, length}
+use Rattle.std.specs.Prelude.{ℕ, ◌+◌, List, [], ◌∷◌, map, length, Result, Ok, Err}
 use Rattle.framing.specs.First.{◌when◌else◌}
+use Rattle.framing.specs.declared.returned.Refusal.{Refusal}
 use Rattle.framing.specs.Header.{length_at}
 use Rattle.framing_numbers.specs.Numbers.{bytes_of, number_at}
 use Rattle.plan_table.specs.Table.{fields_of, width, refusal_of}
@@ -11,19 +12,17 @@ use Rattle.plan_values.specs.declared.Platform.{Platform}
 use Rattle.plan_values.specs.declared.Flow.{Flow}
 use Rattle.plan_checks.specs.Checks.{limits_at, outside, frame_at, rest_at}
 use Rattle.plan_checks.specs.declared.Limits.{Limits}
-use Rattle.plan_checks.specs.declared.Checked.{Checked}
-use Rattle.plan_checks.specs.declared.Checked.TheVariants.{Fault, Passed}
 
 -- "field by field": the fields from the one at this offset of the record on.
-unfoldable pub fields_from : List ℕ → ℕ → Kind → Limits → ℕ → List Field → Checked
-fields_from s at kind l offset [] = Passed kind
+unfoldable pub fields_from : List ℕ → ℕ → Kind → Limits → ℕ → List Field → Result Kind Refusal
+fields_from s at kind l offset [] = Ok kind
 fields_from s at kind l offset (f ∷ rest) =
     let v = number_at s (width f) (at + offset) in
-    Fault (refusal_of f v) (at + offset) when outside l f v else
+    Err (refusal_of f v, at + offset) when outside l f v else
     fields_from s at kind l (offset + bytes_of (width f)) rest
 
 -- The first field stands behind the tag and the length; how many there are depends on the length.
-abbrev pub fields_at : List ℕ → ℕ → Kind → Platform → Checked
+abbrev pub fields_at : List ℕ → ℕ → Kind → Platform → Result Kind Refusal
 fields_at s at kind p = fields_from s at kind (limits_at s at kind p) 3 (fields_of kind (length_at s at))
 
 -- The ids and the priorities of flows.
@@ -35,14 +34,14 @@ priorities_of fs = map (λ f. f.priority) fs
 
 infixr 20 ◌then◌
 -- The first fault met decides.
-unfoldable pub ◌then◌ : Checked → Checked → Checked
-(Fault number place) then next = Fault number place
-(Passed kind) then next = next
+unfoldable pub ◌then◌ : Result Kind Refusal → Result Kind Refusal → Result Kind Refusal
+(Err refusal) then next = Err refusal
+(Ok kind) then next = next
 
-unfoldable pub body_at : List ℕ → ℕ → Checked → Platform → List Flow → Checked
-body_at s at (Fault number place) p fs = Fault number place
-body_at s at (Passed kind) p fs = fields_at s at kind p then rest_at s at kind (ids_of fs) (priorities_of fs)
+unfoldable pub body_at : List ℕ → ℕ → Result Kind Refusal → Platform → List Flow → Result Kind Refusal
+body_at s at (Err refusal) p fs = Err refusal
+body_at s at (Ok kind) p fs = fields_at s at kind p then rest_at s at kind (ids_of fs) (priorities_of fs)
 
 -- "Within a record the order is: header complete (1), 2, 4, 3, body complete (1), 6, then .. field by field, 9, 7, 8", and for the end record 10.
-unfoldable pub record_at : List ℕ → ℕ → Platform → List Flow → Checked
+unfoldable pub record_at : List ℕ → ℕ → Platform → List Flow → Result Kind Refusal
 record_at s at p fs = body_at s at (frame_at s at (length fs)) p fs

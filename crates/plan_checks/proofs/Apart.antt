@@ -10,8 +10,9 @@ use Rattle.plan_table.specs.declared.Kind.{Kind}
 use Rattle.plan_table.specs.declared.Kind.TheVariants.{PlatformRecord, FlowRecord, EndRecord}
 use Rattle.plan_checks.specs.Checks.{period_at, limits_at, outside, clash_at, tail_at, rest_at}
 use Rattle.plan_checks.specs.declared.Limits.{Limits}
-use Rattle.plan_checks.specs.declared.Checked.{Checked}
-use Rattle.plan_checks.specs.declared.Checked.TheVariants.{Fault, Passed}
+use Rattle.std.specs.Prelude.{Result, Ok, Err}
+use Rattle.framing.specs.declared.returned.Refusal.{Refusal}
+use Rattle.framing.specs.declared.returned.Fault.TheVariants.{ByteAfterEnd, EndsEqual, IdTaken, PriorityTaken}
 
 -- A flow record at place 1: period 1000, deadline 200, jitter 3.
 abbrev bytes : List ℕ
@@ -62,13 +63,13 @@ flow_sides :
 flow_sides = refl
 
 -- "9, 7, 8", each by its own values: ids 7 and 8 and priorities 9 and 10 came before, so that an id of 9 and a priority of 7 are new.
-abbrev clash : (id priority source destination : ℕ) → Checked
+abbrev clash : (id priority source destination : ℕ) → Result Kind Refusal
 clash id priority source destination =
     clash_at 100 (record { id = id; priority = priority; source = source; destination = destination; flits = 1; period = 2; deadline = 2; jitter = 0 }) (7 ∷ 8 ∷ []) (9 ∷ 10 ∷ [])
 
 clashes :
     clash 9 7 3 4 ∷ clash 8 7 3 4 ∷ clash 9 10 3 4 ∷ clash 8 10 3 4 ∷ clash 8 10 3 3 ∷ []
-    ≡ Passed FlowRecord ∷ Fault 7 103 ∷ Fault 8 105 ∷ Fault 7 103 ∷ Fault 9 108 ∷ []
+    ≡ Ok FlowRecord ∷ Err (IdTaken, 103) ∷ Err (PriorityTaken, 105) ∷ Err (IdTaken, 103) ∷ Err (EndsEqual, 108) ∷ []
 unfolding clash_at ◌when◌else◌
 clashes = refl
 
@@ -78,6 +79,6 @@ rests :
     ∷ rest_at bytes 1 PlatformRecord (7 ∷ []) (9 ∷ [])
     ∷ rest_at (0xEE ∷ 0x7F ∷ 0 ∷ 0 ∷ []) 1 EndRecord [] [] ∷ rest_at (0xEE ∷ 0x7F ∷ 0 ∷ 0 ∷ 0xEE ∷ []) 1 EndRecord [] []
     ∷ []
-    ≡ Passed FlowRecord ∷ Fault 7 4 ∷ Fault 8 6 ∷ Passed PlatformRecord ∷ Passed EndRecord ∷ Fault 10 4 ∷ []
+    ≡ Ok FlowRecord ∷ Err (IdTaken, 4) ∷ Err (PriorityTaken, 6) ∷ Ok PlatformRecord ∷ Ok EndRecord ∷ Err (ByteAfterEnd, 4) ∷ []
 unfolding clash_at tail_at rest_at ◌when◌else◌
 rests = refl

@@ -6,16 +6,18 @@ use mathlib.Core.List.{List, [], ◌∷◌, map}
 use lib.ListN.{replicate}
 use Rattle.framing.specs.First.{◌when◌else◌}
 use Rattle.plan_table.specs.Table.{tag_of, six_or_seven}
+use Rattle.plan_table.specs.declared.Kind.{Kind}
 use Rattle.plan_table.specs.declared.Kind.TheVariants.{PlatformRecord, FlowRecord, EndRecord}
 use Rattle.plan_checks.specs.Checks.{no_room, header_at, tagged_at, frame_at}
-use Rattle.plan_checks.specs.declared.Checked.{Checked}
-use Rattle.plan_checks.specs.declared.Checked.TheVariants.{Fault, Passed}
+use Rattle.std.specs.Prelude.{Result, Ok, Err}
+use Rattle.framing.specs.declared.returned.Refusal.{Refusal}
+use Rattle.framing.specs.declared.returned.Fault.TheVariants.{Cut, FlowTooMany, Misplaced, UnknownTag, WrongLength}
 
 -- records that start the plan, and records behind two bytes and 64 flows
-first : List (List ℕ) → List Checked
+first : List (List ℕ) → List (Result Kind Refusal)
 first = map (λ s. frame_at s 0 0)
 
-later : List (List ℕ) → List Checked
+later : List (List ℕ) → List (Result Kind Refusal)
 later = map (λ s. frame_at (0x00 ∷ 0x00 ∷ s) 2 64)
 
 first_frames :
@@ -26,7 +28,7 @@ first_frames :
     ∷ (0x02 ∷ 0x00 ∷ 0x13 ∷ [])  -- 4 before 3
     ∷ (0x01 ∷ 0x00 ∷ 0x05 ∷ []) ∷ (0x01 ∷ 0x00 ∷ 0x08 ∷ [])  -- 3 before 1
     ∷ [])
-    ≡ Fault 1 0 ∷ Fault 1 0 ∷ Fault 1 0 ∷ Fault 1 0 ∷ Fault 1 0 ∷ Fault 1 0 ∷ Fault 2 0 ∷ Fault 4 0 ∷ Fault 3 1 ∷ Fault 3 1 ∷ []
+    ≡ Err (Cut, 0) ∷ Err (Cut, 0) ∷ Err (Cut, 0) ∷ Err (Cut, 0) ∷ Err (Cut, 0) ∷ Err (Cut, 0) ∷ Err (UnknownTag, 0) ∷ Err (Misplaced, 0) ∷ Err (WrongLength, 1) ∷ Err (WrongLength, 1) ∷ []
 unfolding tag_of six_or_seven header_at tagged_at frame_at ◌when◌else◌ first
 first_frames = refl
 
@@ -41,7 +43,7 @@ platform_frames :
     ∷ (0x01 ∷ 0 ∷ 8 ∷ 1 ∷ 2 ∷ 3 ∷ 4 ∷ 5 ∷ 6 ∷ 7 ∷ 8 ∷ [])
     ∷ (0x01 ∷ 1 ∷ 7 ∷ 1 ∷ 2 ∷ 3 ∷ 4 ∷ 5 ∷ 6 ∷ 7 ∷ [])
     ∷ [])
-    ≡ Fault 1 0 ∷ Fault 1 0 ∷ Passed PlatformRecord ∷ Passed PlatformRecord ∷ Fault 3 1 ∷ Fault 3 1 ∷ Fault 3 1 ∷ []
+    ≡ Err (Cut, 0) ∷ Err (Cut, 0) ∷ Ok PlatformRecord ∷ Ok PlatformRecord ∷ Err (WrongLength, 1) ∷ Err (WrongLength, 1) ∷ Err (WrongLength, 1) ∷ []
 unfolding tag_of six_or_seven header_at tagged_at frame_at ◌when◌else◌ first
 platform_frames = refl
 
@@ -54,7 +56,7 @@ later_frames :
     ∷ (0x02 ∷ 0x00 ∷ 0x13 ∷ []) ∷ (0x7F ∷ 0x00 ∷ 0x01 ∷ [])  -- 3 before 1
     ∷ (0x02 ∷ 0x00 ∷ 0x14 ∷ [])  -- 1 before 6
     ∷ [])
-    ≡ Fault 1 2 ∷ Fault 1 2 ∷ Fault 1 2 ∷ Fault 1 2 ∷ Fault 1 2 ∷ Fault 1 2 ∷ Fault 4 2 ∷ Fault 3 3 ∷ Fault 3 3 ∷ Fault 1 2 ∷ []
+    ≡ Err (Cut, 2) ∷ Err (Cut, 2) ∷ Err (Cut, 2) ∷ Err (Cut, 2) ∷ Err (Cut, 2) ∷ Err (Cut, 2) ∷ Err (Misplaced, 2) ∷ Err (WrongLength, 3) ∷ Err (WrongLength, 3) ∷ Err (Cut, 2) ∷ []
 unfolding tag_of header_at tagged_at frame_at ◌when◌else◌ later
 later_frames = refl
 
@@ -63,7 +65,7 @@ rooms : (map (no_room FlowRecord) (63 ∷ 64 ∷ 65 ∷ []) ≡ false ∷ true �
 rooms = (refl, refl, refl)
 
 -- Whole records, and one of an unknown tag, behind two bytes and so many flows.
-abbrev behind : ℕ → List ℕ → Checked
+abbrev behind : ℕ → List ℕ → Result Kind Refusal
 behind count s = frame_at (0x00 ∷ 0x00 ∷ s) 2 count
 
 abbrev flow_record : List ℕ
@@ -71,6 +73,6 @@ flow_record = 0x02 ∷ 0x00 ∷ 0x14 ∷ replicate 20 0
 
 sixty_fifth :
     behind 63 flow_record ∷ behind 64 flow_record ∷ behind 64 (0x7F ∷ 0x00 ∷ 0x00 ∷ []) ∷ behind 64 (0x03 ∷ 0x00 ∷ 0x00 ∷ []) ∷ []
-    ≡ Passed FlowRecord ∷ Fault 6 2 ∷ Passed EndRecord ∷ Fault 2 2 ∷ []
+    ≡ Ok FlowRecord ∷ Err (FlowTooMany, 2) ∷ Ok EndRecord ∷ Err (UnknownTag, 2) ∷ []
 unfolding tag_of header_at tagged_at frame_at ◌when◌else◌
 sixty_fifth = refl

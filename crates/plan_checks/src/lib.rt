@@ -1,58 +1,44 @@
-// The checks of document 01, "What sends a plan back", in their order within a record.
+// The checks of document 01, "What sends a plan back", in their order within a record, which its reader stands at.
 #![tactic(auto)]
 
-ghost use Rattle.std.specs.Prelude.{◌≡◌, ◌+◌, ◌^◌, ◌≤◌, ◌<◌, length};
+ghost use Rattle.std.specs.Prelude.{◌≡◌, ◌+◌, ◌^◌, ◌≤◌, ◌<◌, ◌==◌, length, map};
+ghost use Rattle.std.specs.List.{list_any};
 ghost use Rattle.framing.specs.Header.{length_at};
 ghost use Rattle.plan_table.specs.Table.{body_length, refusal_above, refusal_of};
-ghost use Rattle.plan_checks.specs.Checks.{period_at, limits_at, is_platform, misplaced, is_wrong_length, no_room, header_at, frame_at, above, outside, taken, clash_at, tail_at, rest_at};
+ghost use Rattle.plan_checks.specs.declared.Names.{Names};
+ghost use Rattle.plan_checks.specs.Checks.{period_at, limits_at, misplaced, is_wrong_length, no_room, header_at, frame_at, above, outside, clash_at, tail_at, rest_at};
 
 use framing::header::{body_cut, header_cut, length_at, tag_at};
-use framing_numbers::four_at;
-use plan_table::{Field, Kind, Limit, Tag, body_length, tag_of};
+use framing::returned::{Fault, Refusal};
+use framing_reader::Reader;
+use plan_table::{Field, Kind, Limit, body_length, tag_of};
 use plan_values::{Flow, Platform, flow_at};
 
 // What the limits of a record's fields depend on.
-#[derive(Clone, Copy)]
+#[derive(Clone, Copy, Debug, PartialEq, Eq)]
 pub struct Limits {
     pub nodes: u32,
     pub period: u32,
 }
 
-// What checks of a record say: the first fault's number and place, or what record passed them.
-#[derive(Clone, Copy)]
-pub enum Checked {
-    Fault(u8, usize),
-    Passed(Kind),
-}
-
-fn period_at(bytes: &[u8], at: usize, kind: Kind) -> u32
-    requires { at + 3 + body_length kind (length_at bytes.now at) ≤ length bytes.now }
-    ensures { result ≡ period_at bytes.now at kind }
+// 0 where the record has none: only a deadline's limit asks for it. A match, since the kinds are a closed list.
+fn period_at(r: Reader, kind: Kind) -> u32
+    requires { r.at + 3 + body_length kind (length_at r.plan.now r.at) ≤ length r.plan.now }
+    ensures { result ≡ period_at r.entry.plan.now r.entry.at kind }
 {
     match kind {
-        Kind::PlatformRecord => 0,
-        Kind::FlowRecord => four_at(bytes, at + 11),
-        Kind::EndRecord => 0,
+        Kind::FlowRecord => r.past(11).number(),
+        Kind::PlatformRecord | Kind::EndRecord => 0,
     }
 }
 
-pub fn limits_at(bytes: &[u8], at: usize, kind: Kind, platform: Platform) -> Limits
-    requires { at + 3 + body_length kind (length_at bytes.now at) ≤ length bytes.now }
-    ensures { result ≡ limits_at bytes.now at kind platform }
+pub fn limits_at(r: Reader, kind: Kind, platform: Platform) -> Limits
+    requires { r.at + 3 + body_length kind (length_at r.plan.now r.at) ≤ length r.plan.now }
+    ensures { result ≡ limits_at r.entry.plan.now r.entry.at kind platform }
 {
     Limits {
-        nodes: (platform.columns as u32) * (platform.rows as u32),
-        period: period_at(bytes, at, kind),
-    }
-}
-
-fn is_platform(kind: Kind) -> bool
-    ensures { result ≡ is_platform kind }
-{
-    match kind {
-        Kind::PlatformRecord => true,
-        Kind::FlowRecord => false,
-        Kind::EndRecord => false,
+        nodes: u32::from(platform.columns) * u32::from(platform.rows),
+        period: period_at(r, kind),
     }
 }
 
@@ -60,16 +46,15 @@ fn is_platform(kind: Kind) -> bool
 fn is_misplaced(first: bool, kind: Kind) -> bool
     ensures { result ≡ misplaced first kind }
 {
-    let platform = is_platform(kind);
-    (first & !platform) | (!first & platform)
+    first != matches!(kind, Kind::PlatformRecord)
 }
 
 // 3: the length is not the tag's.
-fn wrong_length(bytes: &[u8], at: usize, kind: Kind) -> bool
-    requires { at + 3 ≤ length bytes.now }
-    ensures { result ≡ is_wrong_length bytes.now at kind }
+fn wrong_length(r: Reader, kind: Kind) -> bool
+    requires { r.at + 3 ≤ length r.plan.now }
+    ensures { result ≡ is_wrong_length r.entry.plan.now r.entry.at kind }
 {
-    let told = length_at(bytes, at);
+    let told = length_at(r);
     told != body_length(kind, told)
 }
 
@@ -77,47 +62,44 @@ fn wrong_length(bytes: &[u8], at: usize, kind: Kind) -> bool
 fn no_room(kind: Kind, count: usize) -> bool
     ensures { result ≡ no_room kind count }
 {
-    match kind {
-        Kind::PlatformRecord => false,
-        Kind::FlowRecord => 64 <= count,
-        Kind::EndRecord => false,
-    }
+    matches!(kind, Kind::FlowRecord) && 64 <= count
 }
 
 // 4, 3, 1, 6: what the record's kind asks of its header.
-fn check_header(bytes: &[u8], at: usize, kind: Kind, count: usize) -> Checked
-    requires { at + 3 ≤ length bytes.now }
-    ensures { result ≡ header_at bytes.now at kind count }
+fn check_header(r: Reader, kind: Kind, count: usize) -> Result<Kind, Refusal>
+    requires { r.at + 3 ≤ length r.plan.now }
+    ensures { result ≡ header_at r.entry.plan.now r.entry.at kind count }
 {
-    if is_misplaced(at == 0, kind) {
-        return Checked::Fault(4, at);
+    if is_misplaced(r.at == 0, kind) {
+        return Err(Refusal(Fault::Misplaced, r.at));
     }
-    if wrong_length(bytes, at, kind) {
-        return Checked::Fault(3, at + 1);
+    if wrong_length(r, kind) {
+        return Err(Refusal(Fault::WrongLength, r.at + 1));
     }
-    if body_cut(bytes, at) {
-        return Checked::Fault(1, at);
+    if body_cut(r) {
+        return Err(Refusal(Fault::Cut, r.at));
     }
     if no_room(kind, count) {
-        return Checked::Fault(6, at);
+        return Err(Refusal(Fault::FlowTooMany, r.at));
     }
-    Checked::Passed(kind)
+    Ok(kind)
 }
 
-// 1, 2, and then by the record's kind.
-pub fn check_frame(bytes: &[u8], at: usize, count: usize) -> Checked
-    ensures { result ≡ frame_at bytes.now at count }
+// 1, 2, and then by the record's kind: both answers of the Option stand side by side.
+pub fn check_frame(r: Reader, count: usize) -> Result<Kind, Refusal>
+    ensures { result ≡ frame_at r.entry.plan.now r.entry.at count }
 {
-    if header_cut(bytes, at) {
-        return Checked::Fault(1, at);
+    if header_cut(r) {
+        return Err(Refusal(Fault::Cut, r.at));
     }
-    let tag = tag_of(tag_at(bytes, at));
+    let tag = tag_of(tag_at(r));
     match tag {
-        Tag::Known(kind) => check_header(bytes, at, kind, count),
-        Tag::Unknown => Checked::Fault(2, at),
+        Some(kind) => check_header(r, kind, count),
+        None => Err(Refusal(Fault::UnknownTag, r.at)),
     }
 }
 
+// Two matches of a limit, here and in `refusal_above`: one asks of a value, the other names its fault, and the document says each in a sentence.
 fn is_above(limits: Limits, limit: Limit, value: u32) -> bool
     ensures { result ≡ above limits limit value }
 {
@@ -128,85 +110,91 @@ fn is_above(limits: Limits, limit: Limit, value: u32) -> bool
     }
 }
 
-// A field outside its values.
+// A field outside its values. No method: Field is another crate's.
 pub fn is_outside(limits: Limits, field: Field, value: u32) -> bool
     ensures { result ≡ outside limits field value }
 {
     let Field(_, lowest, limit, _) = field;
-    (value < lowest) | is_above(limits, limit, value)
+    value < lowest || is_above(limits, limit, value)
 }
 
-// Above the highest: the line's refusal, or the limit's own.
-fn refusal_above(limit: Limit, refusal: u8) -> u8
-    ensures { result ≡ refusal_above limit refusal }
+// Above the highest: the line's fault, or the limit's own.
+fn refusal_above(limit: Limit, fault: Fault) -> Fault
+    ensures { result ≡ refusal_above limit fault }
 {
     match limit {
-        Limit::UpTo(_) => refusal,
-        Limit::BelowNodes => refusal,
+        Limit::UpTo(_) | Limit::BelowNodes => fault,
         Limit::UpToPeriod(own) => own,
     }
 }
 
-// Which refusal a value outside a field's values gets.
-pub fn refusal_of(field: Field, value: u32) -> u8
+// Which fault a value outside a field's values is.
+pub fn refusal_of(field: Field, value: u32) -> Fault
     ensures { result ≡ refusal_of field value }
 {
-    let Field(_, lowest, limit, refusal) = field;
+    let Field(_, lowest, limit, fault) = field;
     if value < lowest {
-        return refusal;
+        return fault;
     }
-    refusal_above(limit, refusal)
+    refusal_above(limit, fault)
 }
 
-// Whether an earlier flow's id, or priority, is this one.
-fn is_taken(earlier: &[u16], value: u16) -> bool
-    ensures { result ≡ taken earlier.now value }
+// What no two flows may have alike. Kept beside the flows, since a caller that wants no flows, as the conversion, then has none in memory.
+#[derive(Clone, Copy, Debug, Default, PartialEq, Eq)]
+pub struct Names {
+    pub id: u16,
+    pub priority: u16,
+}
+
+// Whether an earlier flow's id is this one, or its priority. One function for each field: a closure that names the field would be longer than the search.
+fn has_id(flows: &[Names], id: u16) -> bool
+    ensures { result ≡ list_any (λ (f : Names). f.id == id) flows.now }
 {
-    let mut found = false;
-    let mut i: usize = 0;
-    while i < earlier.len() {
-        found = found | (earlier[i] == value);
-        i += 1;
-    }
-    found
+    flows.iter().any(|f| f.id == id)
 }
 
-// 9, 7, 8 of the flow in the record at `at`, behind flows of these ids and priorities.
-fn check_clash(at: usize, flow: Flow, ids: &[u16], priorities: &[u16]) -> Checked
+fn has_priority(flows: &[Names], priority: u16) -> bool
+    ensures { result ≡ list_any (λ (f : Names). f.priority == priority) flows.now }
+{
+    flows.iter().any(|f| f.priority == priority)
+}
+
+// 9, 7, 8 of the flow in the record at `at`, behind these flows.
+fn check_clash(at: usize, flow: Flow, earlier: &[Names]) -> Result<Kind, Refusal>
     requires { at + 23 < 2 ^ 64 }
-    ensures { result ≡ clash_at at flow ids.now priorities.now }
+    ensures { result ≡ clash_at at flow (map (λ (f : Names). f.id) earlier.now) (map (λ (f : Names). f.priority) earlier.now) }
 {
     if flow.source == flow.destination {
-        return Checked::Fault(9, at + 8);
+        return Err(Refusal(Fault::EndsEqual, at + 8));
     }
-    if is_taken(ids, flow.id) {
-        return Checked::Fault(7, at + 3);
+    if has_id(earlier, flow.id) {
+        return Err(Refusal(Fault::IdTaken, at + 3));
     }
-    if is_taken(priorities, flow.priority) {
-        return Checked::Fault(8, at + 5);
+    if has_priority(earlier, flow.priority) {
+        return Err(Refusal(Fault::PriorityTaken, at + 5));
     }
-    Checked::Passed(Kind::FlowRecord)
+    Ok(Kind::FlowRecord)
 }
 
 // 10: a byte after the end record.
-fn check_tail(bytes: &[u8], at: usize) -> Checked
-    requires { at + 3 ≤ length bytes.now }
-    ensures { result ≡ tail_at bytes.now at }
+fn check_tail(r: Reader) -> Result<Kind, Refusal>
+    requires { r.at + 3 ≤ length r.plan.now }
+    ensures { result ≡ tail_at r.entry.plan.now r.entry.at }
 {
-    if at + 3 < bytes.len() {
-        return Checked::Fault(10, at + 3);
+    if r.at + 3 < r.plan.len() {
+        return Err(Refusal(Fault::ByteAfterEnd, r.at + 3));
     }
-    Checked::Passed(Kind::EndRecord)
+    Ok(Kind::EndRecord)
 }
 
-// Behind the fields: 9, 7, 8 of a flow, 10 of the end.
-pub fn check_rest(bytes: &[u8], at: usize, kind: Kind, ids: &[u16], priorities: &[u16]) -> Checked
-    requires { at + 3 + body_length kind (length_at bytes.now at) ≤ length bytes.now }
-    ensures { result ≡ rest_at bytes.now at kind ids.now priorities.now }
+// Behind the fields: 9, 7, 8 of a flow, 10 of the end. A match, since the kinds are a closed list.
+pub fn check_rest(r: Reader, kind: Kind, earlier: &[Names]) -> Result<Kind, Refusal>
+    requires { r.at + 3 + body_length kind (length_at r.plan.now r.at) ≤ length r.plan.now }
+    ensures { result ≡ rest_at r.entry.plan.now r.entry.at kind (map (λ (f : Names). f.id) earlier.now) (map (λ (f : Names). f.priority) earlier.now) }
 {
     match kind {
-        Kind::PlatformRecord => Checked::Passed(kind),
-        Kind::FlowRecord => check_clash(at, flow_at(bytes, at), ids, priorities),
-        Kind::EndRecord => check_tail(bytes, at),
+        Kind::PlatformRecord => Ok(kind),
+        Kind::FlowRecord => check_clash(r.at, flow_at(r), earlier),
+        Kind::EndRecord => check_tail(r),
     }
 }

@@ -6,11 +6,14 @@ use mathlib.Core.List.{List, [], ◌∷◌, ◌++◌, map}
 use lib.ListN.{length, take, drop, replicate}
 use Rattle.framing_numbers.specs.declared.Width.TheVariants.{One, Two, Four}
 use Rattle.framing.specs.First.{◌when◌else◌}
-use Rattle.plan_table.specs.Table.{tag_of, six_or_seven, body_length, platform_fields, flow_fields, lines_of, field_count, fields_of, width, lowest_of, highest_of, refusal_of, lines, first_line}
+use Rattle.framing.specs.Returned.{number_of}
+use Rattle.framing.specs.declared.returned.Fault.TheVariants.{DeadlineAbovePeriod}
+use Rattle.plan_table.specs.Table.{tag_of, six_or_seven, body_length, platform_fields, flow_fields, lines_of, fields_of, width, lowest_of, highest_of, refusal_of}
 use Rattle.plan_table.specs.Refusals.{record_refusals, platform_refusals, flow_refusals, end_refusals, refusals_of, is_number, has}
-use Rattle.plan_table.specs.declared.Tag.TheVariants.{Known, Unknown}
-use Rattle.plan_table.specs.declared.Kind.{Kind}
+use Rattle.std.specs.Prelude.{Some, None}
 use Rattle.plan_table.specs.declared.Limit.TheVariants.{UpTo, BelowNodes, UpToPeriod}
+use Rattle.plan_table.specs.declared.Field.{Field}
+use Rattle.plan_table.specs.declared.Kind.{Kind}
 use Rattle.plan_table.specs.declared.Kind.TheVariants.{PlatformRecord, FlowRecord, EndRecord}
 use Rattle.plan_table.proofs.Lengths.{size_of}
 
@@ -42,33 +45,41 @@ platform_values_lem = (refl, refl)
 flow_values_lem :
     (map lowest_of (fields_of FlowRecord 20) ≡ 0 ∷ 1 ∷ 0 ∷ 0 ∷ 1 ∷ 1 ∷ 1 ∷ 0 ∷ [])
     × (map highest_of (fields_of FlowRecord 20)
-    ≡ UpTo 65534 ∷ UpTo 65535 ∷ BelowNodes ∷ BelowNodes ∷ UpTo 65535 ∷ UpTo 1_000_000_000 ∷ UpToPeriod 38 ∷ UpTo 1_000_000_000 ∷ [])
+    ≡ UpTo 65534 ∷ UpTo 65535 ∷ BelowNodes ∷ BelowNodes ∷ UpTo 65535 ∷ UpTo 1_000_000_000 ∷ UpToPeriod DeadlineAbovePeriod ∷ UpTo 1_000_000_000 ∷ [])
 flow_values_lem = (refl, refl)
 
 -- Column "Tag", with the bytes beside each tag.
 tags :
     map tag_of (0x00 ∷ 0x01 ∷ 0x02 ∷ 0x03 ∷ 0x7E ∷ 0x7F ∷ 0x80 ∷ 0xFF ∷ [])
-    ≡ Unknown ∷ Known PlatformRecord ∷ Known FlowRecord ∷ Unknown ∷ Unknown ∷ Known EndRecord ∷ Unknown ∷ Unknown ∷ []
+    ≡ None ∷ Some PlatformRecord ∷ Some FlowRecord ∷ None ∷ None ∷ Some EndRecord ∷ None ∷ None ∷ []
 unfolding tag_of ◌when◌else◌
 tags = refl
 
 -- "20 to 25 for the platform's fields from columns to method", 26 for the priority flits, "30 to 37 for the flow's from id to jitter"; of a deadline, 36 if it is 0 and 38 if it is above.
 refusals_by_fields :
-    (map (λ f. refusal_of f 0) platform_fields ≡ 20 ∷ 21 ∷ 22 ∷ 23 ∷ 24 ∷ 25 ∷ 26 ∷ [])
-    × (map (λ f. refusal_of f 4294967295) platform_fields ≡ 20 ∷ 21 ∷ 22 ∷ 23 ∷ 24 ∷ 25 ∷ 26 ∷ [])
-    × (map (λ f. refusal_of f 0) flow_fields ≡ 30 ∷ 31 ∷ 32 ∷ 33 ∷ 34 ∷ 35 ∷ 36 ∷ 37 ∷ [])
-    × (map (λ f. refusal_of f 4294967295) flow_fields ≡ 30 ∷ 31 ∷ 32 ∷ 33 ∷ 34 ∷ 35 ∷ 38 ∷ 37 ∷ [])
+    (map (λ f. number_of (refusal_of f 0)) platform_fields ≡ 20 ∷ 21 ∷ 22 ∷ 23 ∷ 24 ∷ 25 ∷ 26 ∷ [])
+    × (map (λ f. number_of (refusal_of f 4294967295)) platform_fields ≡ 20 ∷ 21 ∷ 22 ∷ 23 ∷ 24 ∷ 25 ∷ 26 ∷ [])
+    × (map (λ f. number_of (refusal_of f 0)) flow_fields ≡ 30 ∷ 31 ∷ 32 ∷ 33 ∷ 34 ∷ 35 ∷ 36 ∷ 37 ∷ [])
+    × (map (λ f. number_of (refusal_of f 4294967295)) flow_fields ≡ 30 ∷ 31 ∷ 32 ∷ 33 ∷ 34 ∷ 35 ∷ 38 ∷ 37 ∷ [])
 unfolding ◌when◌else◌
 refusals_by_fields = (refl, refl, refl, refl)
 
 -- How many fields a record has, by the length that it tells.
 counts :
-    map (field_count PlatformRecord) (5 ∷ 6 ∷ 7 ∷ 8 ∷ []) ++ map (field_count FlowRecord) (7 ∷ 20 ∷ []) ++ map (field_count EndRecord) (0 ∷ 7 ∷ [])
+    map (λ (told : ℕ). length (fields_of PlatformRecord told)) (5 ∷ 6 ∷ 7 ∷ 8 ∷ []) ++ map (λ (told : ℕ). length (fields_of FlowRecord told)) (7 ∷ 20 ∷ []) ++ map (λ (told : ℕ). length (fields_of EndRecord told)) (0 ∷ 7 ∷ [])
     ≡ 6 ∷ 6 ∷ 7 ∷ 6 ∷ 8 ∷ 8 ∷ 0 ∷ 0 ∷ []
 unfolding six_or_seven ◌when◌else◌
 counts = refl
 
--- The lines of all records hold each record's own.
+-- The lines of all records, one kind's behind the other's, hold each record's own.
+abbrev lines : List Field
+lines = platform_fields ++ flow_fields
+
+abbrev first_line : Kind → ℕ
+first_line PlatformRecord = 0
+first_line FlowRecord = 7
+first_line EndRecord = 15
+
 lines_of_lem : (kind : Kind) → take (length (lines_of kind)) (drop (first_line kind) lines) ≡ lines_of kind
 lines_of_lem PlatformRecord = refl
 lines_of_lem FlowRecord = refl

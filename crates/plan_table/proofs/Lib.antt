@@ -1,5 +1,4 @@
 pub mod Tags
-mod Fits
 pub mod Lengths
 pub mod Numbers
 mod Examples

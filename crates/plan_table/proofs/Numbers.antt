@@ -5,6 +5,7 @@ use mathlib.Core.Bool.{true}
 use mathlib.Core.List.{List, [], ◌∷◌}
 use lib.ListN.{get_or, take}
 use Rattle.framing.specs.First.{◌when◌else◌}
+use Rattle.framing.specs.Returned.{number_of}
 use Rattle.framing_numbers.specs.Numbers.{bytes_of}
 use Rattle.plan_table.specs.Table.{fields_of, platform_fields, flow_fields, width, highest_of, refusal_above, refusal_of, no_field}
 use Rattle.plan_table.specs.Refusals.{platform_refusals, refusals_of, has}
@@ -17,7 +18,7 @@ use Rattle.plan_table.specs.declared.Kind.TheVariants.{PlatformRecord, FlowRecor
 abbrev pub NumberedBy : List (ℕ × ℕ) → ℕ → List Field → Type 0
 NumberedBy lines offset [] = Unit {0}
 NumberedBy lines offset (f ∷ fs) =
-    ((has lines f.3 offset ≡ true) × (has lines (refusal_above (highest_of f) f.3) offset ≡ true))
+    ((has lines (number_of f.3) offset ≡ true) × (has lines (number_of (refusal_above (highest_of f) f.3)) offset ≡ true))
     × NumberedBy lines (offset + bytes_of (width f)) fs
 
 pub numbered : (kind : Kind) (told : ℕ) → NumberedBy (refusals_of kind) 3 (fields_of kind told)
@@ -30,10 +31,10 @@ numbered FlowRecord told = ((refl, refl), ((refl, refl), ((refl, refl), ((refl, 
 numbered EndRecord told = tt
 
 -- "36 is deadline zero, 38 is deadline above period"
-pub deadline_zero : refusal_of (get_or flow_fields 6 no_field) 0 ≡ 36
+pub deadline_zero : number_of (refusal_of (get_or flow_fields 6 no_field) 0) ≡ 36
 unfolding ◌when◌else◌
 deadline_zero = refl
 
-pub deadline_above : refusal_of (get_or flow_fields 6 no_field) 1 ≡ 38
+pub deadline_above : number_of (refusal_of (get_or flow_fields 6 no_field) 1) ≡ 38
 unfolding ◌when◌else◌
 deadline_above = refl

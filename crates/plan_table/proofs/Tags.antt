@@ -8,19 +8,19 @@ use Rattle.framing.specs.First.{◌when◌else◌}
 use Rattle.plan_table.specs.Table.{tag_of, tag_byte}
 use Rattle.plan_table.specs.declared.Kind.{Kind}
 use Rattle.plan_table.specs.declared.Kind.TheVariants.{PlatformRecord, FlowRecord, EndRecord}
-use Rattle.plan_table.specs.declared.Tag.TheVariants.{Known, Unknown}
+use Rattle.std.specs.Prelude.{Some, None}
 
-pub tag_known : (kind : Kind) → tag_of (tag_byte kind) ≡ Known kind
+pub tag_known : (kind : Kind) → tag_of (tag_byte kind) ≡ Some kind
 unfolding tag_of ◌when◌else◌
 tag_known PlatformRecord = refl
 tag_known FlowRecord = refl
 tag_known EndRecord = refl
 
-pub tag_unknown : {byte : ℕ} → (byte ≡ 0x01 → ⊥) → (byte ≡ 0x02 → ⊥) → (byte ≡ 0x7F → ⊥) → tag_of byte ≡ Unknown
+pub tag_unknown : {byte : ℕ} → (byte ≡ 0x01 → ⊥) → (byte ≡ 0x02 → ⊥) → (byte ≡ 0x7F → ⊥) → tag_of byte ≡ None
 unfolding tag_of ◌when◌else◌
 tag_unknown {byte} p f e = simp (ne_eqb byte 0x01 p, ne_eqb byte 0x02 f, ne_eqb byte 0x7F e)
 
-pub tag_byte_lem : (byte : ℕ) {kind : Kind} → tag_of byte ≡ Known kind → byte ≡ tag_byte kind
+pub tag_byte_lem : (byte : ℕ) {kind : Kind} → tag_of byte ≡ Some kind → byte ≡ tag_byte kind
 tag_byte_lem byte {kind} e = go (ℕ_discrete byte 0x01) (ℕ_discrete byte 0x02) (ℕ_discrete byte 0x7F)
   where
     this : (found : Kind) → byte ≡ tag_byte found → byte ≡ tag_byte kind

@@ -1,53 +1,48 @@
 // Document 01's table of records and their fields: a line here for a line there.
 #![tactic(auto)]
 
-ghost use Rattle.std.specs.Prelude.{◌≡◌, ◌<◌, length, get_or};
-ghost use Rattle.plan_table.specs.Table.{tag_of, six_or_seven, body_length, field_count, first_line, lines_of, lines, no_field};
+ghost use Rattle.std.specs.Prelude.{◌≡◌, ◌≤◌};
+ghost use Rattle.plan_table.specs.Table.{tag_of, six_or_seven, body_length, fields_of};
 
+use framing::returned::Fault;
 use framing_numbers::Width;
 
 // The records of a plan.
-#[derive(Clone, Copy)]
+#[derive(Clone, Copy, Debug, PartialEq, Eq)]
 pub enum Kind {
     PlatformRecord,
     FlowRecord,
     EndRecord,
 }
 
-// What a tag says.
-#[derive(Clone, Copy)]
-pub enum Tag {
-    Known(Kind),
-    Unknown,
-}
-
 // The highest allowed value: a number, or one that depends on the platform or on the record.
-// A value above the period has a refusal of its own.
-#[derive(Clone, Copy)]
+// A value above the period is a fault of its own.
+#[derive(Clone, Copy, Debug, PartialEq, Eq)]
 pub enum Limit {
     UpTo(u32),
     BelowNodes,
-    UpToPeriod(u8),
+    UpToPeriod(Fault),
 }
 
-// Bytes, lowest value, highest value, and the refusal of a value outside them.
-#[derive(Clone, Copy)]
-pub struct Field(pub Width, pub u32, pub Limit, pub u8);
+// Bytes, lowest value, highest value, and the fault of a value outside them.
+#[derive(Clone, Copy, Debug, PartialEq, Eq)]
+pub struct Field(pub Width, pub u32, pub Limit, pub Fault);
 
-pub fn tag_of(byte: u8) -> Tag
+// Which record a tag names, if any: an Option and no TryFrom, since an unknown tag has nothing to tell.
+pub fn tag_of(byte: u8) -> Option<Kind>
     ensures { result ≡ tag_of byte }
 {
     match byte {
-        0x01 => Tag::Known(Kind::PlatformRecord),
-        0x02 => Tag::Known(Kind::FlowRecord),
-        0x7f => Tag::Known(Kind::EndRecord),
-        _ => Tag::Unknown,
+        0x01 => Some(Kind::PlatformRecord),
+        0x02 => Some(Kind::FlowRecord),
+        0x7f => Some(Kind::EndRecord),
+        _ => None,
     }
 }
 
 // A platform record has six bytes, or seven where its length tells so.
 fn six_or_seven(told: u16) -> u16
-    ensures { result ≡ six_or_seven told }
+    ensures { (result ≡ six_or_seven told) × (result ≤ 7) }
 {
     if told == 7 {
         return 7;
@@ -66,54 +61,40 @@ pub fn body_length(kind: Kind, told: u16) -> u16
     }
 }
 
-pub fn field_count(kind: Kind, told: u16) -> usize
-    ensures { result ≡ field_count kind told }
+// A platform's fields have a byte each.
+const PLATFORM_FIELDS: [Field; 7] = [
+    Field(Width::One, 1, Limit::UpTo(8), Fault::Columns),
+    Field(Width::One, 1, Limit::UpTo(8), Fault::Rows),
+    Field(Width::One, 1, Limit::UpTo(16), Fault::LinkCycles),
+    Field(Width::One, 0, Limit::UpTo(16), Fault::RoutingCycles),
+    Field(Width::One, 1, Limit::UpTo(64), Fault::BufferFlits),
+    Field(Width::One, 0, Limit::UpTo(3), Fault::Method),
+    Field(Width::One, 1, Limit::UpTo(8), Fault::PriorityFlits),
+];
+
+const FLOW_FIELDS: [Field; 8] = [
+    Field(Width::Two, 0, Limit::UpTo(65534), Fault::Id),
+    Field(Width::Two, 1, Limit::UpTo(65535), Fault::Priority),
+    Field(Width::One, 0, Limit::BelowNodes, Fault::Source),
+    Field(Width::One, 0, Limit::BelowNodes, Fault::Destination),
+    Field(Width::Two, 1, Limit::UpTo(65535), Fault::Flits),
+    Field(Width::Four, 1, Limit::UpTo(1_000_000_000), Fault::Period),
+    Field(
+        Width::Four,
+        1,
+        Limit::UpToPeriod(Fault::DeadlineAbovePeriod),
+        Fault::DeadlineZero,
+    ), // deadline
+    Field(Width::Four, 0, Limit::UpTo(1_000_000_000), Fault::Jitter),
+];
+
+// The fields of a record that tells this length.
+pub fn fields_of(kind: Kind, told: u16) -> &'static [Field]
+    ensures { result.now ≡ fields_of kind told }
 {
     match kind {
-        Kind::PlatformRecord => six_or_seven(told) as usize,
-        Kind::FlowRecord => 8,
-        Kind::EndRecord => 0,
+        Kind::PlatformRecord => &PLATFORM_FIELDS[..usize::from(six_or_seven(told))],
+        Kind::FlowRecord => &FLOW_FIELDS,
+        Kind::EndRecord => &[],
     }
-}
-
-// Where a record's lines begin in the table.
-fn first_line(kind: Kind) -> usize
-    ensures { result ≡ first_line kind }
-{
-    match kind {
-        Kind::PlatformRecord => 0,
-        Kind::FlowRecord => 7,
-        Kind::EndRecord => 15,
-    }
-}
-
-// The table's lines, those of a platform and then those of a flow.
-fn field_at(line: usize) -> Field
-    requires { line < 15 }
-    ensures { result ≡ get_or lines line no_field }
-{
-    match line {
-        0 => Field(Width::One, 1, Limit::UpTo(8), 20), // columns
-        1 => Field(Width::One, 1, Limit::UpTo(8), 21), // rows
-        2 => Field(Width::One, 1, Limit::UpTo(16), 22), // link cycles
-        3 => Field(Width::One, 0, Limit::UpTo(16), 23), // routing cycles
-        4 => Field(Width::One, 1, Limit::UpTo(64), 24), // buffer flits
-        5 => Field(Width::One, 0, Limit::UpTo(3), 25), // method
-        6 => Field(Width::One, 1, Limit::UpTo(8), 26), // priority flits
-        7 => Field(Width::Two, 0, Limit::UpTo(65534), 30), // id
-        8 => Field(Width::Two, 1, Limit::UpTo(65535), 31), // priority
-        9 => Field(Width::One, 0, Limit::BelowNodes, 32), // source
-        10 => Field(Width::One, 0, Limit::BelowNodes, 33), // destination
-        11 => Field(Width::Two, 1, Limit::UpTo(65535), 34), // flits
-        12 => Field(Width::Four, 1, Limit::UpTo(1_000_000_000), 35), // period
-        13 => Field(Width::Four, 1, Limit::UpToPeriod(38), 36), // deadline
-        _ => Field(Width::Four, 0, Limit::UpTo(1_000_000_000), 37), // jitter
-    }
-}
-
-pub fn field_of(kind: Kind, k: usize) -> Field
-    requires { k < length (lines_of kind) }
-    ensures { result ≡ get_or (lines_of kind) k no_field }
-{
-    field_at(first_line(kind) + k)
 }

@@ -3,14 +3,14 @@
 
 ghost use Rattle.std.specs.Prelude.{◌≡◌, ◌+◌, ◌≤◌, length};
 ghost use Rattle.framing.specs.Header.{length_at};
-ghost use Rattle.plan_values.specs.Values.{six_at, priority_flits_at, platform_at, platform_length, flow_at, blank_platform, blank_flow};
+ghost use Rattle.plan_values.specs.Values.{platform_at, platform_length, flow_at, blank_platform, blank_flow};
 
 use framing::header::length_at;
-use framing_numbers::one_at;
-use framing_reader::{four, one, past, reader_at, two};
+use framing_reader::Reader;
 
+// For C: the method by its number, and 0 priority flits for none.
 #[repr(C)]
-#[derive(Clone, Copy)]
+#[derive(Clone, Copy, Debug, Default, PartialEq, Eq)]
 pub struct Platform {
     pub columns: u8,
     pub rows: u8,
@@ -22,7 +22,7 @@ pub struct Platform {
 }
 
 #[repr(C)]
-#[derive(Clone, Copy)]
+#[derive(Clone, Copy, Debug, Default, PartialEq, Eq)]
 pub struct Flow {
     pub id: u16,
     pub priority: u16,
@@ -34,118 +34,68 @@ pub struct Flow {
     pub jitter: u32,
 }
 
-// Room for the flows of a plan.
+// Room for the flows of a plan, which C reads and writes: there is no heap.
 pub type Flows = [Flow; 64];
 
-// The values of a record, by a reader that starts at its tag: each name is the reader at that field.
-// Of a platform those that every record has.
-fn six_at(bytes: &[u8], at: usize) -> Platform
-    requires { at + 9 ≤ length bytes.now }
-    ensures { result ≡ six_at bytes.now at 0 }
+// The values of a record, by a reader that starts at its tag and travels from field to field.
+#[tactic(auto, using(crate::proofs::Seventh::seventh, crate::proofs::Seventh::no_seventh))]
+pub fn platform_at(r: Reader) -> Platform
+    requires { (r.at + 9 ≤ length r.plan.now) × (r.at + 3 + length_at r.plan.now r.at ≤ length r.plan.now) }
+    ensures { result ≡ platform_at r.entry.plan.now r.entry.at }
 {
-    let columns = past(reader_at(bytes, at), 3);
-    let rows = past(columns, 1);
-    let link = past(rows, 1);
-    let routing = past(link, 1);
-    let buffer = past(routing, 1);
-    let method = past(buffer, 1);
-    Platform {
-        columns: one(columns),
-        rows: one(rows),
-        link: one(link),
-        routing: one(routing),
-        buffer: one(buffer),
-        method: one(method),
+    let mut fields = r.past(3);
+    let six = Platform {
+        columns: fields.take(),
+        rows: fields.take(),
+        link: fields.take(),
+        routing: fields.take(),
+        buffer: fields.take(),
+        method: fields.take(),
         priority_flits: 0,
+    };
+    if length_at(r) == 7 {
+        return Platform {
+            priority_flits: fields.take(),
+            ..six
+        };
     }
-}
-
-// The seventh byte, where the record has one.
-fn priority_flits_at(bytes: &[u8], at: usize) -> u8
-    requires { (at + 3 ≤ length bytes.now) × (at + 3 + length_at bytes.now at ≤ length bytes.now) }
-    ensures { result ≡ priority_flits_at bytes.now at }
-{
-    if length_at(bytes, at) == 7 {
-        return one_at(bytes, at + 9);
-    }
-    0
-}
-
-pub fn platform_at(bytes: &[u8], at: usize) -> Platform
-    requires { (at + 9 ≤ length bytes.now) × (at + 3 + length_at bytes.now at ≤ length bytes.now) }
-    ensures { result ≡ platform_at bytes.now at }
-{
-    let six = six_at(bytes, at);
-    Platform {
-        columns: six.columns,
-        rows: six.rows,
-        link: six.link,
-        routing: six.routing,
-        buffer: six.buffer,
-        method: six.method,
-        priority_flits: priority_flits_at(bytes, at),
-    }
+    six
 }
 
 // The body length of the record that holds a platform.
+#[tactic(auto, using(crate::proofs::Seventh::six_for_none, crate::proofs::Seventh::seven_for_some))]
 pub fn platform_length(p: Platform) -> u8
     ensures { (result ≡ platform_length p) × (6 ≤ result) × (result ≤ 7) }
 {
-    if p.priority_flits == 0 {
-        return 6;
-    }
-    7
+    if p.priority_flits == 0 { 6 } else { 7 }
 }
 
-pub fn flow_at(bytes: &[u8], at: usize) -> Flow
-    requires { at + 23 ≤ length bytes.now }
-    ensures { result ≡ flow_at bytes.now at }
+pub fn flow_at(r: Reader) -> Flow
+    requires { r.at + 23 ≤ length r.plan.now }
+    ensures { result ≡ flow_at r.entry.plan.now r.entry.at }
 {
-    let id = past(reader_at(bytes, at), 3);
-    let priority = past(id, 2);
-    let source = past(priority, 2);
-    let destination = past(source, 1);
-    let flits = past(destination, 1);
-    let period = past(flits, 2);
-    let deadline = past(period, 4);
-    let jitter = past(deadline, 4);
+    let mut fields = r.past(3);
     Flow {
-        id: two(id),
-        priority: two(priority),
-        source: one(source),
-        destination: one(destination),
-        flits: two(flits),
-        period: four(period),
-        deadline: four(deadline),
-        jitter: four(jitter),
+        id: fields.take(),
+        priority: fields.take(),
+        source: fields.take(),
+        destination: fields.take(),
+        flits: fields.take(),
+        period: fields.take(),
+        deadline: fields.take(),
+        jitter: fields.take(),
     }
 }
 
+// What stands where none was read: a plan has room for all its flows, without a heap, and a reading begins without a platform.
 pub fn blank_platform() -> Platform
     ensures { result ≡ blank_platform }
 {
-    Platform {
-        columns: 0,
-        rows: 0,
-        link: 0,
-        routing: 0,
-        buffer: 0,
-        method: 0,
-        priority_flits: 0,
-    }
+    Platform::default()
 }
 
 pub fn blank_flow() -> Flow
     ensures { result ≡ blank_flow }
 {
-    Flow {
-        id: 0,
-        priority: 0,
-        source: 0,
-        destination: 0,
-        flits: 0,
-        period: 0,
-        deadline: 0,
-        jitter: 0,
-    }
+    Flow::default()
 }

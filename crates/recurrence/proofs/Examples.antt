@@ -1,16 +1,17 @@
 -- Figures of document 01, computed from the definitions alone.
-use Prim.Native.Nat.{ℕ, zero, suc, ◌+◌, ◌<◌, ◌≤◌}
+use Prim.Native.Nat.{ℕ, zero, suc, ◌+◌, ◌≤◌}
 use mathlib.Core.Path.{◌≡◌, refl}
 use mathlib.Core.List.{List, [], ◌∷◌, map}
 use mathlib.Core.Logic.{inl, inr}
 use native.Mathlib.Omega.{arith}
-use lib.ListN.{get_or}
 use Rattle.recurrence.specs.declared.Settled.{Settled}
 use Rattle.recurrence.specs.declared.Settled.TheVariants.{Bounded, Late}
+use Rattle.std.specs.Prelude.{replicate}
+use Rattle.std.proofs.lemmas.List.Elements.{All-cons}
 use Rattle.recurrence.specs.Rounding.{up}
 use Rattle.recurrence.specs.Sums.{sum_over}
-use Rattle.recurrence.specs.Recurrence.{Term, packets, right_side, total, released}
-use Rattle.recurrence.specs.Columns.{held_terms}
+use Rattle.recurrence.specs.Recurrence.{Term, weighed, packets, right_side, total, released}
+use Rattle.recurrence.specs.Held.{held}
 use Rattle.recurrence.specs.Limits.{Fair, Given}
 use Rattle.recurrence.specs.Verdicts.{Bound, NoBound, RightVerdict, replaced, Last, GoesOn, Rounds, Allowed}
 use Rattle.recurrence.specs.ComesTo.{comes_to_from, comes_to}
@@ -84,14 +85,11 @@ counts :
 unfolding up sum_over
 counts = (refl, refl)
 
--- The same terms in columns, with more behind them: 2110 is 921 + 1189, and 440 is 1 + 439.
-columns : held_terms (2110 ∷ 440 ∷ 7 ∷ []) (1189 ∷ 439 ∷ 6 ∷ []) (173 ∷ 24 ∷ 5 ∷ []) 2 ≡ two_terms 921
-unfolding held_terms
+-- The same terms by the fields that the code keeps: 2110 is 921 + 1189, and 440 is 1 + 439. Fields of zero are a period of one cycle.
+columns : weighed (held 2110 1189) 173 ∷ weighed (held 440 439) 24 ∷ [] ≡ two_terms 921
 columns = refl
 
--- A column that ends before its last term has zeros there.
-short_columns : held_terms [] [] [] 1 ≡ term 0 1 0 ∷ []
-unfolding held_terms
+short_columns : weighed (held 0 0) 0 ≡ term 0 1 0
 short_columns = refl
 
 -- "until the new value equals the old": a value below the old is not yet the last.
@@ -109,27 +107,24 @@ fair = (
 unfair : (Fair (term 0 0 0) → ⊥) × (Fair (term 0 1_000_000_001 0) → ⊥) × (Fair (term 2_000_000_001 1 0) → ⊥) × (Fair (term 0 5 6) → ⊥)
 unfair = (λ w. omega (arith, w.some), λ w. omega (arith, w.period), λ w. omega (arith, w.shift), λ w. omega (arith, w.light))
 
-given : Given 1_000_000_000 1_000_000_000 (9 ∷ []) (8 ∷ []) (7 ∷ []) 1
-unfolding held_terms
-given = record { latency = omega arith; window = omega arith; few = omega arith; ordered = go; fair = (record { some = omega arith; period = omega arith; shift = omega arith; light = omega arith }, tt) }
-  where
-    go : (k : ℕ) → k < 1 → get_or (8 ∷ []) k 0 ≤ get_or (9 ∷ []) k 0
-    go zero h = omega arith
-    go (suc k) h = absurd (omega (arith, h))
+given : Given 1_000_000_000 1_000_000_000 (term 1 9 7 ∷ [])
+given = record {
+  latency = omega arith;
+  window = omega arith;
+  few = omega arith;
+  fair = All-cons Fair (term 1 9 7) [] (record { some = omega arith; period = omega arith; shift = omega arith; light = omega arith }) (λ k d l. absurd (omega (arith, l)));
+}
 
 not_given :
-    (Given 1_000_000_001 0 [] [] [] 0 → ⊥)
-    × (Given 0 1_000_000_001 [] [] [] 0 → ⊥)
-    × (Given 0 0 [] [] [] 65 → ⊥)
-    × (Given 0 0 (8 ∷ []) (9 ∷ []) (7 ∷ []) 1 → ⊥)
-    × (Given 0 0 (9 ∷ []) (8 ∷ []) (10 ∷ []) 1 → ⊥)
-unfolding held_terms
+    (Given 1_000_000_001 0 [] → ⊥)
+    × (Given 0 1_000_000_001 [] → ⊥)
+    × (Given 0 0 (replicate 65 (term 0 1 0)) → ⊥)
+    × (Given 0 0 (term 1 9 10 ∷ []) → ⊥)
 not_given = (
   λ w. omega (arith, w.latency),
   λ w. omega (arith, w.window),
-  λ w. omega (arith, w.few),
-  λ w. omega (arith, w.ordered 0 (omega arith)),
-  λ w. omega (arith, w.fair.0.light),
+  λ w. let few : 65 ≤ 64 = w.few in omega arith,
+  λ w. omega (arith, (w.fair 0 (term 0 1 0) (omega arith)).light),
 )
 
 -- "the least whole number not above the deadline that solves the recurrence": of R = 5, and of R = R, which all numbers solve.

@@ -1,11 +1,9 @@
 -- The laws of one flow's recurrence. What a buyer reads, and the crates above cite, stands in Theorems; the laws of `up` and of sums beside it.
 pub mod Quotients
 pub mod Sums
-pub mod Columns
 mod Climbing
 mod Counting
 mod Windows
-mod Summing
 mod Computed
 pub mod Theorems
 mod Examples

@@ -1,5 +1,6 @@
 -- The laws of `up`. All but the first hold at a period of zero too, where `up` is zero.
 use Prim.Native.Nat.{ℕ, zero, suc, ◌+◌, ◌-◌, ◌*◌, ◌/◌, ◌≤◌, ◌<◌}
+use mathlib.Core.Path.{◌≡◌, ap}
 use mathlib.Core.Logic.{◌↔◌}
 use native.Mathlib.Nat.{div-lt_iff_lt-mul, div-mul-le_self, div-zero, le_refl}
 use native.Mathlib.Omega.{arith}
@@ -34,3 +35,8 @@ up_add (suc p) a b =
 pub up_over : (a p : ℕ) → up a p * p ≤ a + (p - 1)
 unfolding up
 up_over a p = div-mul-le_self (a + (p - 1)) p
+
+-- One addition and one division round up.
+pub up_held : (window end last : ℕ) → last ≤ end → (window + end) / (last + 1) ≡ up (window + (end - last)) (last + 1)
+unfolding up
+up_held window end last h = ap (λ (a : ℕ). a / (last + 1)) (omega arith)

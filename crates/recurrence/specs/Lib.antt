@@ -2,7 +2,7 @@
 pub mod Rounding
 pub mod Sums
 pub mod Recurrence
-pub mod Columns
+pub mod Held
 pub mod Limits
 pub mod Verdicts
 pub mod ComesTo

@@ -1,7 +1,7 @@
 -- What `settle` is given. Under these limits every sum stays inside 64 bits.
-use Rattle.std.specs.Prelude.{ℕ, ◌≤◌, ◌<◌, List, [], ◌∷◌, get_or}
+use Rattle.std.specs.Prelude.{ℕ, ◌≤◌, ◌<◌, List, length}
+use Rattle.std.specs.List.{All}
 use Rattle.recurrence.specs.Recurrence.{Term}
-use Rattle.recurrence.specs.Columns.{held_terms}
 
 -- "No weight of a bounded flow exceeds that flow's bound, nor does its allowance, and the bound is at most its period."
 -- So a shift, which is a jitter and an allowance, is at most 2,000,000,000.
@@ -12,13 +12,11 @@ pub record Fair (t : Term) : Type 0 where
   pub light : t.weight ≤ t.period
 
 abbrev pub AllFair : List Term → Type 0
-AllFair [] = Unit {0}
-AllFair (t ∷ ts) = Fair t × AllFair ts
+AllFair ts = All Fair ts
 
--- A flow's latency, what its bound is held against, and its terms, the first `count` of the columns.
-pub record Given (c limit : ℕ) (ends lasts weights : List ℕ) (count : ℕ) : Type 0 where
+-- A flow's latency, what its bound is held against, and its terms.
+pub record Given (c limit : ℕ) (terms : List Term) : Type 0 where
   pub latency : c ≤ 1_000_000_000
   pub window : limit ≤ 1_000_000_000
-  pub few : count ≤ 64
-  pub ordered : (k : ℕ) → k < count → get_or lasts k 0 ≤ get_or ends k 0
-  pub fair : AllFair (held_terms ends lasts weights count)
+  pub few : length terms ≤ 64
+  pub fair : AllFair terms

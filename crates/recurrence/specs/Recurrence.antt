@@ -3,11 +3,19 @@ use Rattle.std.specs.Prelude.{ℕ, ◌+◌, ◌*◌, List}
 use Rattle.recurrence.specs.Rounding.{up}
 use Rattle.recurrence.specs.Sums.{sum_over}
 
+-- When a flow's packets come: the shift is its jitter, or its jitter and its delay allowance together.
+pub record Arrivals : Type 0 where
+  pub shift : ℕ
+  pub period : ℕ
+
 -- A direct flow's part in the recurrence. The shift is its jitter and its delay allowance together.
 pub record Term : Type 0 where
   pub shift : ℕ
   pub period : ℕ
   pub weight : ℕ
+
+abbrev pub weighed : Arrivals → ℕ → Term
+weighed a weight = record { shift = a.shift; period = a.period; weight = weight }
 
 -- "Packets of j in a window x: n_j(x) = up((x + jitter_j + A) / period_j)."
 abbrev pub packets : Term → ℕ → ℕ

@@ -1,4 +1,5 @@
 pub mod Writing
 pub mod Theorems
 pub mod Records
+mod BigEndian
 mod Examples

@@ -1,5 +1,5 @@
 -- The records of a reply tell its answers, and from a record that tells an answer that answer is read.
-use Prim.Native.Nat.{ℕ, ◌+◌, ◌*◌, ◌<◌}
+use Prim.Native.Nat.{ℕ, ◌*◌, ◌<◌}
 use mathlib.Core.Path.{◌≡◌, refl, ◌∙◌}
 use mathlib.Core.Logic.{◌≢◌}
 use mathlib.Core.List.{List, ◌++◌, append_assoc}
@@ -7,7 +7,6 @@ use native.Mathlib.Omega.{arith}
 use borrow.Author.Tests.{ne_eqb}
 use lib.ListN.{length, get_or}
 use lib.Seq.{get_or-append-add}
-use Rattle.framing_numbers.specs.Numbers.{one_at, two_at, four_at}
 use Rattle.framing.specs.Each.{each}
 use Rattle.framing.specs.First.{◌when◌else◌}
 use Rattle.framing.specs.Header.{Headed, end_record}
@@ -35,12 +34,6 @@ module _ (named bound rounds : ℕ) {number : ℕ} where
   pub verdict_2 : number ≢ 0 → number ≢ 1 → Waits named ≡ verdict_by number named bound rounds
   unfolding verdict_by ◌when◌else◌
   verdict_2 a b = rw (ne_eqb number 0 a, ne_eqb number 1 b)
-
--- An answer made of the numbers at their places in the record that starts at `at`.
-pub answer_made : (is : List ℕ) (k : ℕ) {at id number named bound rounds : ℕ} {v : Verdict} →
-    at ≡ 16 * k → id ≡ two_at is (at + 3) → number ≡ one_at is (at + 5) → named ≡ two_at is (at + 6) → bound ≡ four_at is (at + 8) → rounds ≡ four_at is (at + 12) →
-    v ≡ verdict_by number named bound rounds → ◌≡◌ {A = Answer} (record { id = id; verdict = v }) (answer_at is k)
-answer_made is k s a b c d e f = rw (a, f, b, c, d, e, s)
 
 -- The numbers that a verdict is written as tell that verdict.
 verdict_back : (v : Verdict) → verdict_by (verdict_number v) (named_flow v) (bound_in v) (rounds_in v) ≡ v

@@ -1,32 +1,25 @@
 // The reply's bytes (document 01, "The reply").
 #![tactic(auto)]
 
-ghost use Rattle.std.specs.Prelude.{◌≡◌, ◌++◌, ◌+◌, ◌*◌, ◌≤◌, length, take, drop};
+ghost use Rattle.std.specs.Prelude.{◌≡◌, ◌++◌, ◌+◌, ◌*◌, ◌≤◌, length, drop};
 ghost use Rattle.reply.specs.Records.{answer_at};
 ghost use Rattle.reply.specs.Reply.{reply_bytes};
 
-use crate::record::{record_bytes, verdict_by};
-use framing::copy::put_whole;
+use crate::record::{AnswerRecord, Parts};
 use framing::header::put_end;
-use framing_numbers::{four_at, one_at, two_at};
-use model::{Answer, Answers};
+use framing::records::put_records;
+use framing_numbers::Number;
+use model::Answer;
 
 mod record;
 
 // Each record is written at its own distance into the reply, into a part of it that is lent on; further bytes stay.
-pub fn put_reply(reply: &mut [u8], list: Answers, count: usize)
-    requires { (count ≤ 64) × (16 * count + 3 ≤ length reply.old) }
-    ensures { reply.new ≡ reply_bytes (take count list) ++ drop (16 * count + 3) reply.old }
+pub fn put_reply(reply: &mut [u8], answers: &[Answer])
+    requires { 16 * length answers.now + 3 ≤ length reply.old }
+    ensures { reply.new ≡ reply_bytes answers.now ++ drop (16 * length answers.now + 3) reply.old }
 {
-    let mut i: usize = 0;
-    while i < count {
-        let at = 16 * i;
-        let bytes = record_bytes(list[i]);
-        put_whole(&mut reply[at..at + 16], &bytes);
-        i += 1;
-    }
-    let at = 16 * count;
-    put_end(&mut reply[at..at + 3]);
+    let end = put_records::<AnswerRecord, Answer, 16>(reply, 0, answers);
+    put_end(&mut reply[end..end + 3]);
 }
 
 // The answer that stands in record k of a reply.
@@ -35,13 +28,14 @@ pub fn answer_at(reply: &[u8], k: usize) -> Answer
     ensures { result ≡ answer_at reply.now k }
 {
     let at = 16 * k;
-    let id = two_at(reply, at + 3);
-    let number = one_at(reply, at + 5);
-    let named = two_at(reply, at + 6);
-    let bound = four_at(reply, at + 8);
-    let rounds = four_at(reply, at + 12);
+    let parts = Parts {
+        number: u8::at(reply, at + 5),
+        named: u16::at(reply, at + 6),
+        bound: u32::at(reply, at + 8),
+        rounds: u32::at(reply, at + 12),
+    };
     Answer {
-        id,
-        verdict: verdict_by(number, named, bound, rounds),
+        id: u16::at(reply, at + 3),
+        verdict: parts.into(),
     }
 }

@@ -12,7 +12,7 @@ use Rattle.plan_table.specs.Table.{tag_of, six_or_seven, flow_fields}
 use Rattle.plan_values.specs.Values.{priority_flits_at, platform_length, blank_flow}
 use Rattle.plan_checks.specs.Checks.{header_at, tagged_at, frame_at, clash_at, tail_at, rest_at}
 use Rattle.plan.specs.Records.{fields_from, ◌then◌, body_at, record_at}
-use Rattle.plan.specs.Reading.{accepted, refused, after, records, read_plan}
+use Rattle.plan.specs.Reading.{plan_in, accepted, refused, after, records, read_plan}
 use Rattle.plan.specs.PlanP.{P, with_seventh}
 use Rattle.plan_values.specs.declared.Platform.{Platform}
 use Rattle.plan_values.specs.declared.Flow.{Flow}
@@ -141,4 +141,4 @@ given_back = (record { same = λ e. refl }, record { same = λ e. absurd (omega 
 
 given_back_not : GivenBack (platform 11 3) flows (accepted_with 81) P → ⊥
 unfolding tag_of six_or_seven priority_flits_at header_at tagged_at frame_at fields_from clash_at tail_at rest_at ◌then◌ body_at record_at accepted refused after records read_plan ◌when◌else◌ prioritised platform first second third flows
-given_back_not w = omega (arith, ap (λ r. r.plan.platform.buffer) (w.same refl))
+given_back_not w = omega (arith, ap (λ r. (plan_in r).platform.buffer) (w.same refl))

@@ -11,15 +11,17 @@ use Rattle.framing_numbers.specs.Numbers.{one_at}
 use Rattle.framing.proofs.Each.{each_append}
 use Rattle.framing.proofs.Stands.{Stands, header}
 use Rattle.plan.specs.Layout.{place}
-use Rattle.plan.specs.Reading.{accepted, refused, records, read_plan}
+use Rattle.plan.specs.Reading.{plan_of, accepted, refused, records, read_plan}
 use Rattle.plan_table.specs.Table.{six_or_seven}
 use Rattle.plan_values.specs.Values.{platform_length}
 use Rattle.plan_values.proofs.Seventh.{length_within}
 use Rattle.plan_values.specs.declared.Platform.{Platform}
 use Rattle.plan_values.specs.declared.Flow.{Flow}
-use Rattle.plan.specs.declared.Reading.{Reading}
-use Rattle.framing.specs.declared.returned.Outcome.{Outcome}
-use Rattle.framing.specs.declared.returned.Outcome.TheVariants.{Accepted, Refused}
+use Rattle.plan.specs.declared.Plan.{Plan}
+use Rattle.std.specs.Prelude.{Result, Ok, Err}
+use Rattle.framing.specs.Returned.{outcome}
+use Rattle.framing.specs.declared.returned.Refusal.{Refusal}
+use Rattle.framing.specs.declared.returned.Fault.TheVariants.{FlowTooMany}
 use Rattle.plan.proofs.Alike.{Alike, same, arrived, alike}
 use Rattle.plan.proofs.Exact.{accepted_plan, size}
 use Rattle.plan.proofs.Frames.{end_passes, one_too_many}
@@ -73,9 +75,9 @@ module _ (p : Platform) (fs : List Flow) (many : length fs ≡ 64) where
     headed = header (goes_on (plan_bytes p (fs ++ f ∷ more)) behind the_longer 3) (omega arith) refl refl
 
     -- Once a reading has got behind 64 flows, the one plan ends and the other goes on.
-    data Parted (x y : Reading) : Type 0 where
+    data Parted (x y : Result Plan Refusal) : Type 0 where
       together : x ≡ y → Parted x y
-      apart : (q : Platform) (gs : List Flow) → x ≡ accepted q gs → y ≡ refused 6 there → Parted x y
+      apart : (q : Platform) (gs : List Flow) → x ≡ accepted q gs → y ≡ refused FlowTooMany there → Parted x y
 
     parted : Parted (read_plan (plan_bytes p fs)) (read_plan (plan_bytes p (fs ++ f ∷ more)))
     parted = go (alike s u (platform_length p) 64 fits agree ls lu (omega arith))
@@ -101,41 +103,41 @@ module _ (p : Platform) (fs : List Flow) (many : length fs ≡ 64) where
         lu : there ≤ length u
         lu = omega (arith, long u behind the_longer)
 
-        go : {x y : Reading} → Alike s u (platform_length p) 64 fits agree ls lu x y → Parted x y
+        go : {x y : Result Plan Refusal} → Alike s u (platform_length p) 64 fits agree ls lu x y → Parted x y
         go (same e) = together e
         go (arrived turns q gs n few) =
             apart q gs
             (ap (λ (n : ℕ). records (suc turns) s (place n 64) q gs) told ∙ end_accepts s there q gs turns (end_passes s there (λ z. omega arith) q gs (header (goes_on s end_record the_64 3) (omega arith) refl refl) (long s end_record the_64)))
             (ap (λ (n : ℕ). records (suc turns) u (place n 64) q gs) told ∙ fault_ends u there q gs turns (one_too_many u there (λ z. omega arith) q gs headed room (omega arith)))
 
-    too_long : (read_plan (plan_bytes p (fs ++ f ∷ more))).outcome ≡ Accepted → ⊥
+    too_long : {plan : Plan} → read_plan (plan_bytes p (fs ++ f ∷ more)) ≡ Ok plan → ⊥
     too_long e =
-        let w = accepted_plan _ e in
+        let w = accepted_plan _ (ap outcome e) in
         omega (arith, (size _ w.0 w.1 w.2).1, room, (length_within p).0)
 
-    pub refused_alike : {number pl : ℕ} → (read_plan (plan_bytes p fs)).outcome ≡ Refused number pl → (read_plan (plan_bytes p (fs ++ f ∷ more))).outcome ≡ Refused number pl
+    pub refused_alike : {refusal : Refusal} → read_plan (plan_bytes p fs) ≡ Err refusal → read_plan (plan_bytes p (fs ++ f ∷ more)) ≡ Err refusal
     unfolding accepted
-    refused_alike {number} {pl} e = go parted
+    refused_alike {refusal} e = go parted
       where
-        go : Parted (read_plan (plan_bytes p fs)) (read_plan (plan_bytes p (fs ++ f ∷ more))) → (read_plan (plan_bytes p (fs ++ f ∷ more))).outcome ≡ Refused number pl
-        go (together t) = ap (λ (r : Reading). r.outcome) (sym t) ∙ e
+        go : Parted (read_plan (plan_bytes p fs)) (read_plan (plan_bytes p (fs ++ f ∷ more))) → read_plan (plan_bytes p (fs ++ f ∷ more)) ≡ Err refusal
+        go (together t) = sym t ∙ e
         go (apart q gs a b) =
-            let o : Accepted ≡ Refused number pl = ap (λ (r : Reading). r.outcome) (sym a) ∙ e in
+            let o : ◌≡◌ {A = Result Plan Refusal} (Ok (plan_of q gs)) (Err refusal) = sym a ∙ e in
             let z : ◌≡◌ {A = ℕ} 0 1 = cc in
             absurd (omega arith)
 
-    pub sixty_fifth : (read_plan (plan_bytes p fs)).outcome ≡ Accepted → (read_plan (plan_bytes p (fs ++ f ∷ more))).outcome ≡ Refused 6 there
+    pub sixty_fifth : {plan : Plan} → read_plan (plan_bytes p fs) ≡ Ok plan → read_plan (plan_bytes p (fs ++ f ∷ more)) ≡ Err (FlowTooMany, there)
     unfolding refused
-    sixty_fifth e = go parted
+    sixty_fifth {plan} e = go parted
       where
-        go : Parted (read_plan (plan_bytes p fs)) (read_plan (plan_bytes p (fs ++ f ∷ more))) → (read_plan (plan_bytes p (fs ++ f ∷ more))).outcome ≡ Refused 6 there
-        go (together t) = absurd (too_long (ap (λ (r : Reading). r.outcome) (sym t) ∙ e))
-        go (apart q gs a b) = ap (λ (r : Reading). r.outcome) b
+        go : Parted (read_plan (plan_bytes p fs)) (read_plan (plan_bytes p (fs ++ f ∷ more))) → read_plan (plan_bytes p (fs ++ f ∷ more)) ≡ Err (FlowTooMany, there)
+        go (together t) = absurd (too_long (sym t ∙ e))
+        go (apart q gs a b) = b
 
   -- What follows the 64 changes nothing.
-  pub whatever_follows : (f g : Flow) (more others : List Flow) → (read_plan (plan_bytes p (fs ++ f ∷ more))).outcome ≡ (read_plan (plan_bytes p (fs ++ g ∷ others))).outcome
-  whatever_follows f g more others = go (read_plan (plan_bytes p fs)).outcome refl
+  pub whatever_follows : (f g : Flow) (more others : List Flow) → read_plan (plan_bytes p (fs ++ f ∷ more)) ≡ read_plan (plan_bytes p (fs ++ g ∷ others))
+  whatever_follows f g more others = go (read_plan (plan_bytes p fs)) refl
     where
-      go : (o : Outcome) → (read_plan (plan_bytes p fs)).outcome ≡ o → (read_plan (plan_bytes p (fs ++ f ∷ more))).outcome ≡ (read_plan (plan_bytes p (fs ++ g ∷ others))).outcome
-      go (Refused number place) e = refused_alike f more e ∙ sym (refused_alike g others e)
-      go Accepted e = sixty_fifth f more e ∙ sym (sixty_fifth g others e)
+      go : (r : Result Plan Refusal) → read_plan (plan_bytes p fs) ≡ r → read_plan (plan_bytes p (fs ++ f ∷ more)) ≡ read_plan (plan_bytes p (fs ++ g ∷ others))
+      go (Err refusal) e = refused_alike f more e ∙ sym (refused_alike g others e)
+      go (Ok plan) e = sixty_fifth f more e ∙ sym (sixty_fifth g others e)

@@ -23,7 +23,8 @@ use Rattle.plan_values.specs.Values.{priority_flits_at, platform_at, platform_le
 use Rattle.plan_values.proofs.Seventh.{seventh, no_seventh, either_length, length_within}
 use Rattle.plan_values.specs.declared.Platform.{Platform}
 use Rattle.plan_values.specs.declared.Flow.{Flow}
-use Rattle.framing.specs.declared.returned.Outcome.TheVariants.{Accepted}
+use Rattle.std.specs.Prelude.{Ok}
+use Rattle.framing.specs.Returned.{outcome}
 use Rattle.plan.proofs.Exact.{accepted_exactly, accepted_plan}
 use Rattle.writer_bytes.specs.PlanBytes.{flow_values, platform_bytes, flow_bytes, plan_bytes}
 use Rattle.writer.specs.Fits.{Fits, FitsEach}
@@ -137,7 +138,7 @@ laid_once {s} {p} {q} {fs} {gs} a b =
     (same, ext_get_or blank_flow fs gs n (λ k l. sym (a.each k l).1 ∙ ap (λ (z : ℕ). flow_at s (place z k)) size ∙ (b.each k (omega arith)).1))
 
 -- "Reading the written bytes gives back the same platform and flows in the same order"
-pub given_back : (p : Platform) (fs : List Flow) → FitsEach fs → (read_plan (plan_bytes p fs)).outcome ≡ Accepted → read_plan (plan_bytes p fs) ≡ accepted p fs
+pub given_back : (p : Platform) (fs : List Flow) → FitsEach fs → outcome (read_plan (plan_bytes p fs)) ≡ Ok tt → read_plan (plan_bytes p fs) ≡ accepted p fs
 given_back p fs w e =
     let (q, gs, r) = accepted_plan (plan_bytes p fs) e in
     let k = laid_once ((accepted_exactly _ q gs).0 r).0 (written_laid p fs w) in

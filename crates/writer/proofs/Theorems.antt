@@ -9,16 +9,16 @@ use native.Mathlib.Omega.{arith}
 use lib.ListN.{length, drop}
 use lib.Seq.{take_at}
 use Rattle.framing_numbers.specs.Numbers.{Bytes}
-use Rattle.framing.specs.Returned.{refused_with, accepted_with}
+use Rattle.framing.specs.Returned.{number_of, refused_with, accepted_with, outcome}
 use Rattle.framing.specs.declared.returned.Returned.{Returned}
 use Rattle.framing.proofs.Rooms.{handed_on, too_short, room_enough}
 use Rattle.plan.specs.Legal.{Legal}
 use Rattle.plan.specs.Reading.{accepted, read_plan}
 use Rattle.plan_values.specs.declared.Platform.{Platform}
 use Rattle.plan_values.specs.declared.Flow.{Flow}
-use Rattle.framing.specs.declared.returned.Outcome.{Outcome}
-use Rattle.framing.specs.declared.returned.Outcome.TheVariants.{Accepted, Refused}
-use Rattle.plan.specs.declared.Reading.{Reading}
+use Rattle.std.specs.Prelude.{Result, Ok, Err}
+use Rattle.framing.specs.declared.returned.Refusal.{Refusal}
+use Rattle.plan.specs.declared.Plan.{Plan}
 use Rattle.writer_bytes.specs.PlanBytes.{plan_bytes, plan_length}
 use Rattle.writer.specs.Written.{returned, left, GivenBack}
 use Rattle.writer_bytes.proofs.Putting.{length_plan}
@@ -34,21 +34,23 @@ module _ (p : Platform) (fs : List Flow) (held : List ℕ) where
   data Came : Returned → List ℕ → Type 0 where
     sent_back : (number place : ℕ) → number ≢ 0 → Came (refused_with number place) held
     no_room : Came (refused_with 11 0) held
-    whole : (read_plan bytes).outcome ≡ Accepted → length bytes ≤ length held → Came (accepted_with (length bytes)) (bytes ++ drop (length bytes) held)
+    whole : outcome (read_plan bytes) ≡ Ok tt → length bytes ≤ length held → Came (accepted_with (length bytes)) (bytes ++ drop (length bytes) held)
 
-  in_room : (read_plan bytes).outcome ≡ Accepted → Dec (length held < length bytes) → Came (returned p fs (length held)) (left p fs held)
+  in_room : outcome (read_plan bytes) ≡ Ok tt → Dec (length held < length bytes) → Came (returned p fs (length held)) (left p fs held)
   in_room e (yes h) = let (a, b) = too_short (length bytes) bytes held e h in rw (← a, ← b) no_room
   in_room e (no n) =
       let h : length bytes ≤ length held = omega arith in
       let (a, b) = room_enough (length bytes) bytes held e h in
       rw (← a, ← b) (whole e h)
 
-  by_outcome : (o : Outcome) → (read_plan bytes).outcome ≡ o → Came (returned p fs (length held)) (left p fs held)
-  by_outcome (Refused number place) e = let (a, b) = handed_on (length bytes) bytes held e in rw (← a, ← b) (sent_back number place (not_accepted bytes e))
-  by_outcome Accepted e = in_room e (dec_lt (length held) (length bytes))
+  by_reading : (r : Result Plan Refusal) → read_plan bytes ≡ r → Came (returned p fs (length held)) (left p fs held)
+  by_reading (Err refusal) e =
+      let (a, b) = handed_on (length bytes) bytes held (ap outcome e) in
+      rw (← a, ← b) (sent_back (number_of refusal.0) refusal.1 (not_accepted bytes e))
+  by_reading (Ok plan) e = in_room (ap outcome e) (dec_lt (length held) (length bytes))
 
   came : Came (returned p fs (length held)) (left p fs held)
-  came = by_outcome (read_plan bytes).outcome refl
+  came = by_reading (read_plan bytes) refl
 
   -- "The buffer is untouched by a refusal."
   pub refused_untouched : (returned p fs (length held)).number ≢ 0 → left p fs held ≡ held
@@ -64,7 +66,7 @@ module _ (p : Platform) (fs : List Flow) (held : List ℕ) where
   unfolding accepted
   read_written s is e h =
       let same = same_bytes is p fs e in
-      let (a, b) = room_enough (length s) s held (ap (λ (r : Reading). r.outcome) e) h in
+      let (a, b) = room_enough (length s) s held (ap outcome e) h in
       rw same (sym a, sym b)
 
   -- A plan is written exactly if its values are allowed and the buffer has room for it.
@@ -72,7 +74,7 @@ module _ (p : Platform) (fs : List Flow) (held : List ℕ) where
   unfolding accepted
   legal_written w h =
       let l = length_plan p fs in
-      sym (room_enough (length bytes) bytes held (ap (λ (r : Reading). r.outcome) ((written_exactly p fs).1 w)) (omega arith)).0 ∙ ap accepted_with l
+      sym (room_enough (length bytes) bytes held (ap outcome ((written_exactly p fs).1 w)) (omega arith)).0 ∙ ap accepted_with l
 
   -- The other way by the promise of what is read back: other values could have the same bytes, if they were too large for their fields.
   pub written_legal : GivenBack p fs (returned p fs (length held)) (left p fs held) → (returned p fs (length held)).number ≡ 0 → Legal p fs × (plan_length p (length fs) ≤ length held)

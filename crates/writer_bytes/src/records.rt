@@ -3,17 +3,18 @@ ghost use Rattle.std.specs.Prelude.{◌≡◌, ◌+◌, ◌≤◌, take};
 ghost use Rattle.plan_values.specs.Values.{platform_length};
 ghost use Rattle.writer_bytes.specs.PlanBytes.{platform_bytes, flow_bytes};
 
-use framing::big_endian::byte_of;
+use framing::records::Layout;
 use plan_values::{Flow, Platform, platform_length};
 
 // How many bytes the platform's record has: 9 or 10.
 pub(crate) fn platform_size(p: Platform) -> usize
     ensures { (result ≡ 3 + platform_length p) × (result ≤ 10) }
 {
-    3 + platform_length(p) as usize
+    3 + usize::from(platform_length(p))
 }
 
-// The first so many of these; the last is left out where the platform has no priority flits.
+// Ten bytes, since there is no heap: the first so many of these; the last is left out where the platform has no priority flits.
+#[tactic(auto, using(crate::proofs::Putting::first_bytes))]
 pub(crate) fn platform_bytes(p: Platform) -> [u8; 10]
     ensures { take (3 + platform_length p) result ≡ platform_bytes p }
 {
@@ -31,35 +32,44 @@ pub(crate) fn platform_bytes(p: Platform) -> [u8; 10]
     ]
 }
 
-pub(crate) fn flow_bytes(f: Flow) -> [u8; 23]
-    ensures { result ≡ flow_bytes f }
-{
-    let id = f.id as u32;
-    let priority = f.priority as u32;
-    let flits = f.flits as u32;
-    [
-        0x02,
-        0,
-        20,
-        byte_of(256, id),
-        byte_of(1, id),
-        byte_of(256, priority),
-        byte_of(1, priority),
-        f.source,
-        f.destination,
-        byte_of(256, flits),
-        byte_of(1, flits),
-        byte_of(16777216, f.period),
-        byte_of(65536, f.period),
-        byte_of(256, f.period),
-        byte_of(1, f.period),
-        byte_of(16777216, f.deadline),
-        byte_of(65536, f.deadline),
-        byte_of(256, f.deadline),
-        byte_of(1, f.deadline),
-        byte_of(16777216, f.jitter),
-        byte_of(65536, f.jitter),
-        byte_of(256, f.jitter),
-        byte_of(1, f.jitter),
-    ]
+// The layout of a flow's record.
+pub(crate) struct FlowRecord;
+
+impl Layout<Flow, 23> for FlowRecord {
+    ghost made = { flow_bytes };
+
+    #[tactic(auto, using(framing::proofs::BigEndian::two_of_std, framing::proofs::BigEndian::four_of_std), unfolding(crate::specs::PlanBytes::flow_bytes))]
+    fn record(flow: &Flow) -> [u8; 23] {
+        let [id1, id0] = flow.id.to_be_bytes();
+        let [priority1, priority0] = flow.priority.to_be_bytes();
+        let [flits1, flits0] = flow.flits.to_be_bytes();
+        let [period3, period2, period1, period0] = flow.period.to_be_bytes();
+        let [deadline3, deadline2, deadline1, deadline0] = flow.deadline.to_be_bytes();
+        let [jitter3, jitter2, jitter1, jitter0] = flow.jitter.to_be_bytes();
+        [
+            0x02,
+            0,
+            20,
+            id1,
+            id0,
+            priority1,
+            priority0,
+            flow.source,
+            flow.destination,
+            flits1,
+            flits0,
+            period3,
+            period2,
+            period1,
+            period0,
+            deadline3,
+            deadline2,
+            deadline1,
+            deadline0,
+            jitter3,
+            jitter2,
+            jitter1,
+            jitter0,
+        ]
+    }
 }

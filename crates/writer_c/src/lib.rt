@@ -13,8 +13,5 @@ use writer::write;
 pub extern "C" fn lingfallow_write(plan: Plan, buffer: &mut [u8]) -> Returned
     ensures { (result ≡ returned plan.platform (listed plan.flows plan.count) (length buffer.old)) × (buffer.new ≡ left plan.platform (listed plan.flows plan.count) buffer.old) × GivenBack plan.platform (listed plan.flows plan.count) result buffer.new }
 {
-    let platform = plan.platform;
-    let flows = plan.flows;
-    let count = plan.count;
-    write(platform, flows, count, buffer)
+    Returned::from(write(plan, buffer))
 }

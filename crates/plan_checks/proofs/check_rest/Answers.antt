@@ -1,10 +1,6 @@
 -- `plan_checks::check_rest` meets its contract: each arm is a case of the record.
-use Rattle.plan_checks.proofs.Fits.{flow_whole}
 use Rattle.plan_checks.proofs.Rests.{rests}
 use Rattle.plan_checks.proofs.check_rest.Goals as goal
-
-pub flow_at-requires : goal.flow_at-requires
-flow_at-requires c = search flow_whole
 
 pub returns-in-PlatformRecord : goal.returns-in-PlatformRecord
 returns-in-PlatformRecord c = search rests

@@ -4,10 +4,10 @@ use Rattle.framing.specs.First.{◌when◌else◌}
 use Rattle.plan_checks.specs.Checks.{tail_at}
 use Rattle.plan_checks.proofs.check_tail.Goals as goal
 
-pub returns-then-at-bytes : goal.returns-then-at-bytes
+pub returns-then-r : goal.returns-then-r
 unfolding tail_at ◌when◌else◌
-returns-then-at-bytes c = simp (lt-ltb _ _ c.if-at-bytes.true)
+returns-then-r c = simp (lt-ltb _ _ c.if-r.true)
 
 pub returns : goal.returns
 unfolding tail_at ◌when◌else◌
-returns c = simp (le-ltb _ _ c.if-at-bytes.false)
+returns c = simp (le-ltb _ _ c.if-r.false)

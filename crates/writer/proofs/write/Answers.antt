@@ -1,22 +1,24 @@
 -- `writer::write` meets its contract.
-use mathlib.Core.Path.{sym}
-use lib.Seq.{length-take-le}
 use borrow.Author.Rules.{rules}
-use Rattle.writer.proofs.Returning.{written_refused, written_longer, written_short, written_whole}
-use Rattle.writer.proofs.Typed.{flows_typed}
+use mathlib.Core.Path.{◌≡◌}
+use Rattle.std.specs.Prelude.{Err}
+use Rattle.writer.proofs.Returning.{Tried, tried, written_refused, written_longer, written_short, written_whole}
+use Rattle.writer.proofs.Typed.{plan_typed}
 use Rattle.writer.proofs.write.Goals as goal
+use Rattle.writer.proofs.write.Goals.{After-read}
 
-pub slice_bounds-read-end : goal.slice_bounds-read-end
-slice_bounds-read-end c = sym (length-take-le _ _ (search rules))
+-- What was tried before the buffer is touched.
+read_there : (c : After-read) → Tried c.args.plan.platform c.args.plan.flows c.args.plan.count c.min-kept.result c.plan_length-size.result c.read.result
+read_there c = tried _ (search rules) (search rules) c.plan_length-size.ensures.0 c.put_plan.ensures c.read.ensures
 
-pub returns-in-Refused : goal.returns-in-Refused
-returns-in-Refused c = written_refused c.args.platform c.args.flows c.args.count _ (search rules) c.at_most_64-kept.ensures _ c.put_plan.ensures c.plan_length-size.ensures.0 c.read-reading.ensures c.in-Refused.is
+pub returns-in_err-read : goal.returns-in_err-read
+returns-in_err-read c = rw (let e : c.from_residual.result ≡ Err c.in_err-read.field-0.0 = search rules in e) (written_refused _ (read_there (goal.at.returns-in_err-read c).After-read) c.in_err-read.was)
 
-pub returns-then-count-gt64 : goal.returns-then-count-gt64
-returns-then-count-gt64 c = written_longer c.args.platform c.args.flows c.args.count _ (search rules) c.at_most_64-kept.ensures _ c.put_plan.ensures c.plan_length-size.ensures.0 c.read-reading.ensures c.if-count-gt64.true c.in_default.is
+pub returns-then-plan-gt64 : goal.returns-then-plan-gt64
+returns-then-plan-gt64 c = written_longer _ (read_there (goal.at.returns-then-plan-gt64 c).After-read) c.if-plan-gt64.true c.in_ok-read.was
 
 pub returns-then-buffer-size : goal.returns-then-buffer-size
-returns-then-buffer-size c = written_short c.args.platform c.args.flows c.args.count _ (search rules) c.at_most_64-kept.ensures _ c.put_plan.ensures c.plan_length-size.ensures.0 c.read-reading.ensures c.if-count-gt64.false c.in_default.is c.if-buffer-size.true
+returns-then-buffer-size c = written_short _ (read_there (goal.at.returns-then-buffer-size c).After-read) c.if-plan-gt64.false c.in_ok-read.was c.if-buffer-size.true
 
 pub returns : goal.returns
-returns c = written_whole c.args.platform c.args.flows c.args.count _ (search rules) c.at_most_64-kept.ensures _ c.put_plan.ensures c.plan_length-size.ensures.0 c.read-reading.ensures c.if-count-gt64.false (flows_typed c.args.flows c.well_formed.1.0.0 c.well_formed.1.0.1.1) c.in_default.is c.if-buffer-size.false c.put_plan-2.ensures
+returns c = written_whole _ (read_there (goal.at.returns c).After-read) c.if-plan-gt64.false c.in_ok-read.was (plan_typed c.args.plan _ c.well_formed.0) c.if-buffer-size.false c.put_plan-2.ensures

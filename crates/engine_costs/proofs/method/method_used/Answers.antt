@@ -1,16 +1,8 @@
--- `engine_costs::method::method_used` meets its contract: each arm is a line of the definition.
-use Rattle.engine_costs.proofs.Methods.{method_one, method_two, method_three, method_rest}
-use borrow.Author.Rules.{rules}
+-- `engine_costs::method::method_used` meets its contract.
+use mathlib.Core.Path.{ap, ◌∙◌}
+use Rattle.std.specs.Result.{result_unwrap_or}
+use Rattle.engine_costs.proofs.Methods.{numbered_used}
 use Rattle.engine_costs.proofs.method.method_used.Goals as goal
 
-pub returns-in-1 : goal.returns-in-1
-returns-in-1 c = method_one _ c.in-1.is
-
-pub returns-in-2 : goal.returns-in-2
-returns-in-2 c = method_two _ c.in-2.is
-
-pub returns-in-3 : goal.returns-in-3
-returns-in-3 c = method_three _ c.in-3.is
-
-pub returns-in_default : goal.returns-in_default
-returns-in_default c = method_rest _ c.house_default.ensures (search rules) (search rules) (search rules)
+pub returns : goal.returns
+returns c = c.unwrap_or.ensures ∙ ap (result_unwrap_or c.try_from.result) c.house_default.ensures ∙ numbered_used c.args.p c.try_from.result c.try_from.ensures

@@ -1,0 +1,26 @@
+// What is kept of a flow that has had its turn.
+ghost use Rattle.std.specs.Prelude.{◌≡◌, ◌≤◌, ◌<◌, length, take};
+ghost use Rattle.engine_terms.specs.Kept.{kept_at, seen_at};
+
+use engine_costs::figures::Figures;
+
+// Its figures, the places of its direct flows, of which `figures.seen` are looked at as third ones, and by place the hits on it. Arrays, since there is no heap.
+#[derive(Clone, Copy, Debug, PartialEq, Eq)]
+pub struct Kept {
+    pub figures: Figures,
+    pub direct: [u8; 64],
+    pub hits: [u32; 64],
+}
+
+// By place in the plan. A place is an index of this array: a type of places below 64 would be turned into one at each use.
+pub type KeptTable = [Kept; 64];
+
+// Of the flow at j: the places of those of its direct flows that are looked at as third ones.
+pub(crate) fn thirds_of(kept: &KeptTable, j: usize) -> &[u8]
+    requires { (j < 64) × (seen_at kept.now j ≤ 64) }
+    ensures named { result.now ≡ take (seen_at kept.now j) (kept_at kept.now j).direct }
+    ensures many { length result.now ≡ seen_at kept.now j }
+{
+    let second = &kept[j];
+    &second.direct[..second.figures.seen]
+}
