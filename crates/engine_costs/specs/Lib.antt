@@ -1,2 +1,2 @@
--- What is kept of a flow, in a row of numbers.
+-- What is kept of a flow.
 pub mod Figures

@@ -1,4 +1,4 @@
-// A flow's row: the links it shares, its direct flows, the searches among them, and the hits on it.
+// A flow's row: its direct flows, the searches among them, and the hits on it.
 #![tactic(auto)]
 
 pub mod hits;

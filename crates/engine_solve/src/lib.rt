@@ -21,7 +21,8 @@ fn term_of(way: Way, i: usize, j: usize, kept: &KeptTable, table: &PairTable) ->
     ensures { result ≡ term_at way i kept.now table.now j }
 {
     let cap = way.cap(table[i][j].count);
-    let loads = sum_loads(kept, table, i, j, cap);
+    let first = table[j][i].first;
+    let loads = sum_loads(kept, &kept[j], &table[i], &table[j], first, cap);
     way.term(&kept[j].figures, loads)
 }
 

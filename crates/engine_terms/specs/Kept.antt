@@ -38,10 +38,19 @@ module _ (kept : List Kept) where
 abbrev pub pair_at : List (List Pair) → ℕ → ℕ → Pair
 pair_at table i k = get_or (get_or table i []) k no_pair
 
+-- The loads of the third flows between a first flow and a second one: direct flows of the second. Of the pair table these are
+-- the links that each flow shares with the first, its place on the second's route, and the first flow's place there.
+module _ (kept : List Kept) (second : Kept) (shared places : List Pair) (first : ℕ) where
+  abbrev pub up_between : ℕ
+  up_between = sum_to second.figures.seen (λ m. up_load (λ k. (get_or shared k no_pair).count) (λ k. (get_or places k no_pair).first) (λ k. get_or second.hits k 0) (cost_at kept) first (get_or second.direct m 0))
+
+  abbrev pub down_between : ℕ → ℕ
+  down_between cap = sum_to second.figures.seen (λ m. down_load (λ k. (get_or shared k no_pair).count) (λ k. (get_or places k no_pair).first) (λ k. get_or second.hits k 0) (cost_at kept) first cap (get_or second.direct m 0))
+
+-- The same of the flows at i and j.
 module _ (kept : List Kept) (table : List (List Pair)) (i j : ℕ) where
-  -- The loads of the third flows between the flow at i and the one at j: direct flows of j.
   abbrev pub up_of : ℕ
-  up_of = sum_to (seen_at kept j) (λ m. up_load (λ k. (pair_at table i k).count) (λ k. (pair_at table j k).first) (hits_at kept j) (cost_at kept) (pair_at table j i).first (third_at kept j m))
+  up_of = up_between kept (kept_at kept j) (get_or table i []) (get_or table j []) (pair_at table j i).first
 
   abbrev pub down_of : ℕ → ℕ
-  down_of cap = sum_to (seen_at kept j) (λ m. down_load (λ k. (pair_at table i k).count) (λ k. (pair_at table j k).first) (hits_at kept j) (cost_at kept) (pair_at table j i).first cap (third_at kept j m))
+  down_of = down_between kept (kept_at kept j) (get_or table i []) (get_or table j []) (pair_at table j i).first

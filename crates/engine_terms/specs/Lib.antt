@@ -1,3 +1,3 @@
--- What the engine adds up for a pair of flows, by the cells of its columns.
+-- What the engine adds up for a pair of flows.
 pub mod Loads
 pub mod Kept

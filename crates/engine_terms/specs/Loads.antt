@@ -1,4 +1,4 @@
--- What the engine adds up for a pair of flows, by the cells of its columns.
+-- What the engine adds up for a pair of flows.
 use Rattle.std.specs.Prelude.{ℕ, zero, suc, ◌+◌, ◌-◌, ◌*◌, min, Bool, cond, not, ◌&&◌, ltb}
 use Rattle.plan_values.specs.declared.Platform.{Platform}
 use Rattle.model.specs.declared.Method.{Method}

@@ -1,6 +1,5 @@
 // What is kept of a flow that has had its turn.
-ghost use Rattle.std.specs.Prelude.{◌≡◌, ◌≤◌, ◌<◌, length, take};
-ghost use Rattle.engine_terms.specs.Kept.{kept_at, seen_at};
+ghost use Rattle.std.specs.Prelude.{◌≡◌, ◌≤◌, length, take};
 
 use engine_costs::figures::Figures;
 
@@ -15,12 +14,13 @@ pub struct Kept {
 // By place in the plan. A place is an index of this array: a type of places below 64 would be turned into one at each use.
 pub type KeptTable = [Kept; 64];
 
-// Of the flow at j: the places of those of its direct flows that are looked at as third ones.
-pub(crate) fn thirds_of(kept: &KeptTable, j: usize) -> &[u8]
-    requires { (j < 64) × (seen_at kept.now j ≤ 64) }
-    ensures named { result.now ≡ take (seen_at kept.now j) (kept_at kept.now j).direct }
-    ensures many { length result.now ≡ seen_at kept.now j }
-{
-    let second = &kept[j];
-    &second.direct[..second.figures.seen]
+impl Kept {
+    // The places of those of its direct flows that are looked at as third ones.
+    pub(crate) fn thirds(&self) -> &[u8]
+        requires { self.now.figures.seen ≤ 64 }
+        ensures named { result.now ≡ take self.now.figures.seen self.now.direct }
+        ensures many { length result.now ≡ self.now.figures.seen }
+    {
+        &self.direct[..self.figures.seen]
+    }
 }

@@ -1,10 +1,11 @@
 // What third flows bring to a pair of flows.
-ghost use Rattle.std.specs.Prelude.{◌≡◌, ℕ, ◌+◌, ◌≤◌, ◌<◌};
+ghost use Rattle.std.specs.Prelude.{◌≡◌, ℕ, ◌+◌, ◌≤◌, ◌<◌, get_or};
 ghost use Rattle.engine_terms.specs.Loads.{up_part, down_part};
-ghost use Rattle.engine_terms.specs.Kept.{pair_at, cost_at, hits_at, seen_at, third_at, up_of, down_of};
+ghost use Rattle.pairs.specs.Pairs.{no_pair};
+ghost use Rattle.engine_terms.specs.Kept.{cost_at, up_between, down_between};
 
-use crate::kept::{KeptTable, thirds_of};
-use pairs::PairTable;
+use crate::kept::{Kept, KeptTable};
+use pairs::PairRow;
 
 // The hits of the upstream flows at their latencies, and of the downstream flows at no more than the cap.
 #[derive(Clone, Copy, Debug, PartialEq, Eq)]
@@ -45,30 +46,42 @@ impl Loads {
     }
 }
 
-// The flow at k as a third one between those at i and j.
-fn third_between(kept: &KeptTable, table: &PairTable, i: usize, j: usize, k: usize) -> Third
-    requires { (i < 64) × (j < 64) × (k < 64) }
-    ensures { result ≡ record { shared = (pair_at table.now i k).count; place = (pair_at table.now j k).first; hits = hits_at kept.now j k; cost = cost_at kept.now k } }
+// The flow at k as a third one between a first flow, with which each shares so many links, and a second one, on whose route these are the places.
+fn third_between(
+    kept: &KeptTable,
+    second: &Kept,
+    shared: &PairRow,
+    places: &PairRow,
+    k: usize,
+) -> Third
+    requires { k < 64 }
+    ensures { result ≡ record { shared = (get_or shared.now k no_pair).count; place = (get_or places.now k no_pair).first; hits = get_or second.now.hits k 0; cost = cost_at kept.now k } }
 {
     Third {
-        shared: table[i][k].count,
-        place: table[j][k].first,
-        hits: kept[j].hits[k],
+        shared: shared[k].count,
+        place: places[k].first,
+        hits: second.hits[k],
         cost: kept[k].figures.cost,
     }
 }
 
-// Between the flows at i and j: over the direct flows of the one at j that are looked at.
-pub fn sum_loads(kept: &KeptTable, table: &PairTable, i: usize, j: usize, cap: u32) -> Loads
-    requires places { (i < 64) × (j < 64) }
-    requires below_64 { (seen_at kept.now j ≤ 64) × ((m : ℕ) → m < seen_at kept.now j → third_at kept.now j m < 64) }
-    requires sums { (up_of kept.now table.now i j ≤ 1_000_000_000) × (down_of kept.now table.now i j cap ≤ 1_000_000_000) }
-    ensures { (result.up ≡ up_of kept.now table.now i j) × (result.down ≡ down_of kept.now table.now i j cap) }
+// Over the direct flows of the second that are looked at; `first` is the first flow's place on the second's route. Rows of the pair table,
+// and no places of the two flows, of which more would have to be asked.
+pub fn sum_loads(
+    kept: &KeptTable,
+    second: &Kept,
+    shared: &PairRow,
+    places: &PairRow,
+    first: u8,
+    cap: u32,
+) -> Loads
+    requires below_64 { (second.now.figures.seen ≤ 64) × ((m : ℕ) → m < second.now.figures.seen → get_or second.now.direct m 0 < 64) }
+    requires sums { (up_between kept.now second.now shared.now places.now first ≤ 1_000_000_000) × (down_between kept.now second.now shared.now places.now first cap ≤ 1_000_000_000) }
+    ensures { (result.up ≡ up_between kept.now second.now shared.now places.now first) × (result.down ≡ down_between kept.now second.now shared.now places.now first cap) }
 {
-    let first = table[j][i].first;
     let mut loads = Loads { up: 0, down: 0 };
-    for k in thirds_of(kept, j) {
-        let third = third_between(kept, table, i, j, usize::from(*k));
+    for k in second.thirds() {
+        let third = third_between(kept, second, shared, places, usize::from(*k));
         loads = loads.with_third(third, first, cap);
     }
     loads
