@@ -32,7 +32,7 @@ pub fn read(bytes: &[u8]) -> Result<Plan, Refusal>
     let mut names = [Names::default(); 64];
     let mut count: usize = 0;
     'records: loop {
-        let r = Reader { plan: bytes, at };
+        let r = Reader::new(bytes, at);
         let kind = check_frame(r, count)?;
         let limits = limits_at(r, kind, platform);
         let mut offset: usize = 3;

@@ -8,7 +8,7 @@ use Rattle.framing_numbers.specs.declared.Width.TheVariants.{One, Two, Four}
 use Rattle.framing.specs.First.{◌when◌else◌}
 use Rattle.framing.specs.Returned.{number_of}
 use Rattle.framing.specs.declared.returned.Fault.TheVariants.{DeadlineAbovePeriod}
-use Rattle.plan_table.specs.Table.{tag_of, six_or_seven, body_length, platform_fields, flow_fields, lines_of, fields_of, width, lowest_of, highest_of, refusal_of}
+use Rattle.plan_table.specs.Table.{tag_of, six_or_seven, body_length, platform_fields, flow_fields, lines_of, field_count, fields_of, width, lowest_of, highest_of, refusal_of}
 use Rattle.plan_table.specs.Refusals.{record_refusals, platform_refusals, flow_refusals, end_refusals, refusals_of, is_number, has}
 use Rattle.std.specs.Prelude.{Some, None}
 use Rattle.plan_table.specs.declared.Limit.TheVariants.{UpTo, BelowNodes, UpToPeriod}
@@ -66,10 +66,10 @@ refusals_by_fields = (refl, refl, refl, refl)
 
 -- How many fields a record has, by the length that it tells.
 counts :
-    map (λ (told : ℕ). length (fields_of PlatformRecord told)) (5 ∷ 6 ∷ 7 ∷ 8 ∷ []) ++ map (λ (told : ℕ). length (fields_of FlowRecord told)) (7 ∷ 20 ∷ []) ++ map (λ (told : ℕ). length (fields_of EndRecord told)) (0 ∷ 7 ∷ [])
-    ≡ 6 ∷ 6 ∷ 7 ∷ 6 ∷ 8 ∷ 8 ∷ 0 ∷ 0 ∷ []
+    (map (field_count PlatformRecord) (5 ∷ 6 ∷ 7 ∷ 8 ∷ []) ++ map (field_count FlowRecord) (7 ∷ 20 ∷ []) ++ map (field_count EndRecord) (0 ∷ 7 ∷ []) ≡ 6 ∷ 6 ∷ 7 ∷ 6 ∷ 8 ∷ 8 ∷ 0 ∷ 0 ∷ [])
+    × (map (λ (told : ℕ). length (fields_of PlatformRecord told)) (5 ∷ 6 ∷ 7 ∷ 8 ∷ []) ++ map (λ (told : ℕ). length (fields_of FlowRecord told)) (7 ∷ 20 ∷ []) ++ map (λ (told : ℕ). length (fields_of EndRecord told)) (0 ∷ 7 ∷ []) ≡ 6 ∷ 6 ∷ 7 ∷ 6 ∷ 8 ∷ 8 ∷ 0 ∷ 0 ∷ [])
 unfolding six_or_seven ◌when◌else◌
-counts = refl
+counts = (refl, refl)
 
 -- The lines of all records, one kind's behind the other's, hold each record's own.
 abbrev lines : List Field

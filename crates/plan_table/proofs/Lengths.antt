@@ -1,15 +1,16 @@
 -- A platform record has six bytes or seven, and as many fields.
-use Prim.Native.Nat.{ℕ, ◌+◌, ◌≤◌}
+use Prim.Native.Nat.{ℕ, ◌+◌, ◌≤◌, ◌<◌}
 use native.Mathlib.Omega.{arith}
 use mathlib.Core.Path.{◌≡◌, refl}
 use mathlib.Core.Bool.{Bool, true, false}
 use mathlib.Core.List.{List, [], ◌∷◌}
 use lib.Dec.{eqb}
-use lib.ListN.{take}
+use lib.ListN.{length, take, get_or}
+use lib.Seq.{get_or-take}
 use borrow.Author.Tests.{eq-eqb, ne_eqb}
 use Rattle.framing.specs.First.{◌when◌else◌}
 use Rattle.framing_numbers.specs.Numbers.{bytes_of}
-use Rattle.plan_table.specs.Table.{six_or_seven, body_length, width, platform_fields, fields_of}
+use Rattle.plan_table.specs.Table.{six_or_seven, body_length, width, platform_fields, lines_of, field_count, fields_of, no_field}
 use Rattle.plan_table.specs.declared.Field.{Field}
 use Rattle.plan_table.specs.declared.Kind.{Kind}
 use Rattle.plan_table.specs.declared.Kind.TheVariants.{PlatformRecord, FlowRecord, EndRecord}
@@ -47,3 +48,17 @@ pub filled : (kind : Kind) (told : ℕ) → size_of (fields_of kind told) ≡ bo
 filled PlatformRecord told = by_length (λ n. size_of (take n platform_fields) ≡ n) refl refl told
 filled FlowRecord told = refl
 filled EndRecord told = refl
+
+pub counted : (kind : Kind) (told : ℕ) → length (fields_of kind told) ≡ field_count kind told
+counted PlatformRecord told = by_length (λ n. length (take n platform_fields) ≡ n) refl refl told
+counted FlowRecord told = refl
+counted EndRecord told = refl
+
+-- a record's field is a line of its kind
+pub count_within : (kind : Kind) (told : ℕ) → field_count kind told ≤ length (lines_of kind)
+count_within PlatformRecord told = at_most_seven told
+count_within FlowRecord told = omega arith
+count_within EndRecord told = omega arith
+
+pub field_line : (kind : Kind) (told : ℕ) {k : ℕ} → k < field_count kind told → get_or (fields_of kind told) k no_field ≡ get_or (lines_of kind) k no_field
+field_line kind told {k} h = get_or-take (field_count kind told) (lines_of kind) k no_field h

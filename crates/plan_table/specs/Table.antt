@@ -65,11 +65,15 @@ lines_of PlatformRecord = platform_fields
 lines_of FlowRecord = flow_fields
 lines_of EndRecord = []
 
--- .. and which of them a record has that tells this length. A platform's have a byte each, so that they are as many as its length.
+-- .. how many of them a record has that tells this length. A platform's have a byte each, so that they are as many as its length.
+abbrev pub field_count : Kind → ℕ → ℕ
+field_count PlatformRecord told = six_or_seven told
+field_count FlowRecord told = 8
+field_count EndRecord told = 0
+
+-- .. and which: the first so many.
 abbrev pub fields_of : Kind → ℕ → List Field
-fields_of PlatformRecord told = take (six_or_seven told) platform_fields
-fields_of FlowRecord told = flow_fields
-fields_of EndRecord told = []
+fields_of kind told = take (field_count kind told) (lines_of kind)
 
 -- The columns of a field's line.
 abbrev pub width : Field → Width

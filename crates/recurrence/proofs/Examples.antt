@@ -11,7 +11,7 @@ use Rattle.std.proofs.lemmas.List.Elements.{All-cons}
 use Rattle.recurrence.specs.Rounding.{up}
 use Rattle.recurrence.specs.Sums.{sum_over}
 use Rattle.recurrence.specs.Recurrence.{Term, weighed, packets, right_side, total, released}
-use Rattle.recurrence.specs.Held.{held}
+use Rattle.recurrence.specs.Held.{held, Ordered}
 use Rattle.recurrence.specs.Limits.{Fair, Given}
 use Rattle.recurrence.specs.Verdicts.{Bound, NoBound, RightVerdict, replaced, Last, GoesOn, Rounds, Allowed}
 use Rattle.recurrence.specs.ComesTo.{comes_to_from, comes_to}
@@ -115,15 +115,20 @@ given = record {
   fair = All-cons Fair (term 1 9 7) [] (record { some = omega arith; period = omega arith; shift = omega arith; light = omega arith }) (λ k d l. absurd (omega (arith, l)));
 }
 
+ordered : Ordered 8 8 × Ordered 9 8
+ordered = (omega arith, omega arith)
+
 not_given :
     (Given 1_000_000_001 0 [] → ⊥)
     × (Given 0 1_000_000_001 [] → ⊥)
     × (Given 0 0 (replicate 65 (term 0 1 0)) → ⊥)
+    × (Ordered 8 9 → ⊥)
     × (Given 0 0 (term 1 9 10 ∷ []) → ⊥)
 not_given = (
   λ w. omega (arith, w.latency),
   λ w. omega (arith, w.window),
   λ w. let few : 65 ≤ 64 = w.few in omega arith,
+  λ w. omega (arith, w),
   λ w. omega (arith, (w.fair 0 (term 0 1 0) (omega arith)).light),
 )
 

@@ -2,7 +2,7 @@
 ghost use Rattle.std.specs.Prelude.{◌≡◌, ◌+◌, ◌-◌, ◌≤◌, ◌<◌};
 ghost use Rattle.recurrence.specs.Rounding.{up};
 ghost use Rattle.recurrence.specs.Recurrence.{Arrivals, Term, weighed, delay};
-ghost use Rattle.recurrence.specs.Held.{held};
+ghost use Rattle.recurrence.specs.Held.{held, Ordered};
 ghost use Rattle.recurrence.specs.Limits.{Fair};
 
 use std::marker::Model;
@@ -20,7 +20,7 @@ impl Model for Arrivals {
 
     ghost view = { λ a. held a.end a.last };
 
-    ghost invariant = { λ a. a.last ≤ a.end };
+    ghost invariant = { λ a. Ordered a.end a.last };
 
     ghost inverse = { λ v. record { end = v.shift + (v.period - 1); last = v.period - 1 } };
 }
