@@ -147,16 +147,25 @@ pub struct Names {
 }
 
 // Whether an earlier flow's id is this one, or its priority. One function for each field: a closure that names the field would be longer than the search.
+// Every flow is looked at, several at a time, which is faster than to stop at the first (`any`).
 fn has_id(flows: &[Names], id: u16) -> bool
     ensures { result ≡ list_any (λ (f : Names). f.id == id) flows.now }
 {
-    flows.iter().any(|f| f.id == id)
+    let mut found = false;
+    for f in flows {
+        found |= f.id == id;
+    }
+    found
 }
 
 fn has_priority(flows: &[Names], priority: u16) -> bool
     ensures { result ≡ list_any (λ (f : Names). f.priority == priority) flows.now }
 {
-    flows.iter().any(|f| f.priority == priority)
+    let mut found = false;
+    for f in flows {
+        found |= f.priority == priority;
+    }
+    found
 }
 
 // 9, 7, 8 of the flow in the record at `at`, behind these flows.

@@ -1,0 +1,8 @@
+-- `plan_checks::has_priority` meets its contract: what was found among the flows so far.
+use Rattle.std.proofs.Common.{◌≡◌, take, ◌==◌}
+use Rattle.std.specs.List.{list_any}
+use Rattle.plan_checks.specs.declared.Names.{Names}
+use Rattle.plan_checks.proofs.has_priority.Given as goal
+
+abbrev pub invariant-loop-f : goal.invariant-loop-f
+invariant-loop-f l = l.found ≡ list_any (λ (f : Names). f.priority == l.priority) (take l.f-index l.flows)
