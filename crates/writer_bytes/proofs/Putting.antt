@@ -1,4 +1,4 @@
--- How long a plan's records are, and the loop of `put_plan`: flow i's record starts at place i, behind the platform's, which has `start` bytes.
+-- How long a plan's records are: flow i's record starts at place i, behind the platform's, which has `start` bytes.
 use Prim.Native.Nat.{ℕ, ◌+◌, ◌*◌}
 use mathlib.Core.Path.{◌≡◌, refl, ap, ◌∙◌}
 use mathlib.Core.List.{List, [], ◌∷◌, ◌++◌, append_assoc}
